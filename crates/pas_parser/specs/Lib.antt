@@ -1,5 +1,11 @@
+pub mod Block
+pub mod Constant
+pub mod Expr
 pub mod Look
+pub mod Loop
 pub mod Operator
 pub mod Outcome
 pub mod Program
 pub mod Reading
+pub mod Statement
+pub mod TypeExpr

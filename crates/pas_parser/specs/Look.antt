@@ -43,12 +43,12 @@ unfoldable pub same_word : Word → Word → Bool
 same_word = sameb word_type.the_type
 
 abbrev pub is_symbol : Symbol → Option TokenKind → Bool
-is_symbol symbol (Some (kind.Symbol found)) = same_symbol found symbol
-is_symbol symbol _ = false
+is_symbol wanted (Some (kind.Symbol found)) = same_symbol found wanted
+is_symbol wanted _ = false
 
 abbrev pub is_word : Word → Option TokenKind → Bool
-is_word word (Some (kind.Word found)) = same_word found word
-is_word word _ = false
+is_word expected (Some (kind.Word found)) = same_word found expected
+is_word expected _ = false
 
 abbrev pub is_ident : Option TokenKind → Bool
 is_ident (Some kind.Ident) = true

@@ -1,5 +1,5 @@
 -- What a function that reads answers, and what it ensures.
-use Rattle.std.specs.Prelude.{◌≡◌, ℕ, ◌+◌, ◌<◌, ◌≤◌, List, length, Result, Ok, Err}
+use Rattle.std.specs.Prelude.{◌≡◌, ℕ, ◌+◌, ◌≤◌, List, length, Result, Ok, Err}
 use Rattle.pas_lexer.specs.declared.token.Token.{Token}
 use Rattle.pas_parser.specs.declared.fault.ParseFault.{ParseFault}
 use Rattle.pas_parser.specs.declared.fault.ParseFault.TheVariants.{NoRule, TooDeep, Memory}

@@ -1,5 +1,5 @@
 -- What the productions answer.
-use Rattle.std.specs.Prelude.{ℕ, ◌<◌, ◌≤◌, max, List, [], ◌∷◌, ◌++◌, length, Ok, Err}
+use Rattle.std.specs.Prelude.{ℕ, ◌+◌, ◌<◌, ◌≤◌, max, List, [], ◌∷◌, ◌++◌, length, Ok, Err}
 use Rattle.pas_lexer.specs.declared.token.Token.{Token}
 use Rattle.pas_parser.specs.declared.reading.Read.{Read}
 use Rattle.pas_parser.specs.declared.reading.Measured.{Measured}
@@ -36,3 +36,10 @@ gathered first = record { tree = first.tree ∷ []; height = first.height; next 
 
 abbrev pub joined : {T : Type 0} → Measured (List T) → Measured T → Measured (List T)
 joined list more = record { tree = list.tree ++ more.tree ∷ []; height = max list.height more.height; next = more.next }
+
+abbrev pub appended : {T : Type 0} → Measured (List T) → Measured (List T) → Measured (List T)
+appended list more = record { tree = list.tree ++ more.tree; height = max list.height more.height; next = more.next }
+
+-- one level more around it
+abbrev pub deeper : {T : Type 0} → Measured T → Measured T
+deeper found = record { tree = found.tree; height = found.height + 1; next = found.next }

@@ -1,7 +1,9 @@
 //! Blocks, their declarations (ISO 7185, 6.2) and routines (6.6).
 
 ghost use Rattle.std.specs.Prelude.{◌≡◌, ◌<◌, length, IsTrue};
-ghost use Rattle.pas_parser.specs.Outcome.{IsPlace};
+ghost use Rattle.pas_parser.specs.Block as spec;
+ghost use Rattle.pas_parser.specs.Look.{kind_at};
+ghost use Rattle.pas_parser.specs.Outcome.{Gives, IsPlace};
 ghost use Rattle.pas_parser.specs.Reading.{Advances, Stays};
 
 use crate::constant::{constant, idents, labels};
@@ -21,7 +23,10 @@ use std::alloc::Global;
 
 type Reading<T> = Result<Read<T>, ParseFault>;
 
-fn begins_block(kind: Option<TokenKind>) -> bool {
+#[tactic(auto, unfolding(crate::specs::Block::begins_block))]
+fn begins_block(kind: Option<TokenKind>) -> bool
+    ensures { result ≡ spec.begins_block kind }
+{
     matches!(
         kind,
         Some(TokenKind::Word(
@@ -37,9 +42,11 @@ fn begins_block(kind: Option<TokenKind>) -> bool {
 }
 
 /// `["label" number {"," number} ";"]`
+#[tactic(auto, unfolding(crate::specs::Block::label_part))]
 fn label_part(alloc: Global, tokens: &[Token], at: u32) -> Reading<Items<Label>>
     requires { IsPlace tokens.now at }
     ensures place { Stays tokens.now at result }
+    ensures value { Gives (spec.label_part tokens.now at) result }
 {
     if !is_word(tokens, at, Word::WLabel) {
         return Ok(Read {
@@ -56,9 +63,11 @@ fn label_part(alloc: Global, tokens: &[Token], at: u32) -> Reading<Items<Label>>
 }
 
 /// `ident "=" constant ";"`
+#[tactic(auto, unfolding(crate::specs::Block::const_decl))]
 fn const_decl(tokens: &[Token], at: u32) -> Reading<ConstDecl>
     requires { IsPlace tokens.now at }
     ensures place { Advances tokens.now at result }
+    ensures value { Gives (spec.const_decl tokens.now at) result }
 {
     let equal = expect_ident(tokens, at)?;
     let value = constant(tokens, expect_symbol(tokens, equal, Symbol::Equal)?)?;
@@ -72,18 +81,14 @@ fn const_decl(tokens: &[Token], at: u32) -> Reading<ConstDecl>
     })
 }
 
-/// `["const" const_decl {const_decl}]`
-fn const_part(alloc: Global, tokens: &[Token], at: u32) -> Reading<Items<ConstDecl>>
+/// `const_decl {const_decl}`
+#[tactic(auto, unfolding(crate::specs::Block::declarations))]
+fn const_decls(alloc: Global, tokens: &[Token], at: u32) -> Reading<Items<ConstDecl>>
     requires { IsPlace tokens.now at }
-    ensures place { Stays tokens.now at result }
+    ensures place { Advances tokens.now at result }
+    ensures value { Gives (spec.declarations tokens.now (spec.const_decl tokens.now) at) result }
 {
-    if !is_word(tokens, at, Word::WConst) {
-        return Ok(Read {
-            tree: Items::new(alloc),
-            next: at,
-        });
-    }
-    let first = const_decl(tokens, at + 1)?;
+    let first = const_decl(tokens, at)?;
     let mut list = listed(alloc, first).map_err(ParseFault::Memory)?;
     while is_ident(tokens, list.next) {
         let more = const_decl(tokens, list.next)?;
@@ -92,10 +97,28 @@ fn const_part(alloc: Global, tokens: &[Token], at: u32) -> Reading<Items<ConstDe
     Ok(list)
 }
 
+/// `["const" const_decl {const_decl}]`
+#[tactic(auto, unfolding(crate::specs::Block::const_part, crate::specs::Block::declaration_part))]
+fn const_part(alloc: Global, tokens: &[Token], at: u32) -> Reading<Items<ConstDecl>>
+    requires { IsPlace tokens.now at }
+    ensures place { Stays tokens.now at result }
+    ensures value { Gives (spec.const_part tokens.now at) result }
+{
+    if is_word(tokens, at, Word::WConst) {
+        return const_decls(alloc, tokens, at + 1);
+    }
+    Ok(Read {
+        tree: Items::new(alloc),
+        next: at,
+    })
+}
+
 /// `ident "=" type ";"`
+#[tactic(auto, unfolding(crate::specs::Block::type_decl))]
 fn type_decl(alloc: Global, tokens: &[Token], levels: u32, at: u32) -> Reading<TypeDecl>
     requires { IsPlace tokens.now at }
     ensures place { Advances tokens.now at result }
+    ensures value { Gives (spec.type_decl tokens.now levels at) result }
 {
     let equal = expect_ident(tokens, at)?;
     let first = expect_symbol(tokens, equal, Symbol::Equal)?;
@@ -110,18 +133,14 @@ fn type_decl(alloc: Global, tokens: &[Token], levels: u32, at: u32) -> Reading<T
     })
 }
 
-/// `["type" type_decl {type_decl}]`
-fn type_part(alloc: Global, tokens: &[Token], levels: u32, at: u32) -> Reading<Items<TypeDecl>>
+/// `type_decl {type_decl}`
+#[tactic(auto, unfolding(crate::specs::Block::declarations))]
+fn type_decls(alloc: Global, tokens: &[Token], levels: u32, at: u32) -> Reading<Items<TypeDecl>>
     requires { IsPlace tokens.now at }
-    ensures place { Stays tokens.now at result }
+    ensures place { Advances tokens.now at result }
+    ensures value { Gives (spec.declarations tokens.now (spec.type_decl tokens.now levels) at) result }
 {
-    if !is_word(tokens, at, Word::WType) {
-        return Ok(Read {
-            tree: Items::new(alloc),
-            next: at,
-        });
-    }
-    let first = type_decl(alloc, tokens, levels, at + 1)?;
+    let first = type_decl(alloc, tokens, levels, at)?;
     let mut list = listed(alloc, first).map_err(ParseFault::Memory)?;
     while is_ident(tokens, list.next) {
         let more = type_decl(alloc, tokens, levels, list.next)?;
@@ -130,10 +149,28 @@ fn type_part(alloc: Global, tokens: &[Token], levels: u32, at: u32) -> Reading<I
     Ok(list)
 }
 
+/// `["type" type_decl {type_decl}]`
+#[tactic(auto, unfolding(crate::specs::Block::type_part, crate::specs::Block::declaration_part))]
+fn type_part(alloc: Global, tokens: &[Token], levels: u32, at: u32) -> Reading<Items<TypeDecl>>
+    requires { IsPlace tokens.now at }
+    ensures place { Stays tokens.now at result }
+    ensures value { Gives (spec.type_part tokens.now levels at) result }
+{
+    if is_word(tokens, at, Word::WType) {
+        return type_decls(alloc, tokens, levels, at + 1);
+    }
+    Ok(Read {
+        tree: Items::new(alloc),
+        next: at,
+    })
+}
+
 /// `idents ":" type ";"`
+#[tactic(auto, unfolding(crate::specs::Block::var_decl))]
 fn var_decl(alloc: Global, tokens: &[Token], levels: u32, at: u32) -> Reading<VarDecl>
     requires { IsPlace tokens.now at }
     ensures place { Advances tokens.now at result }
+    ensures value { Gives (spec.var_decl tokens.now levels at) result }
 {
     let names = idents(alloc, tokens, at)?;
     let first = expect_symbol(tokens, names.next, Symbol::Colon)?;
@@ -148,18 +185,14 @@ fn var_decl(alloc: Global, tokens: &[Token], levels: u32, at: u32) -> Reading<Va
     })
 }
 
-/// `["var" var_decl {var_decl}]`
-fn var_part(alloc: Global, tokens: &[Token], levels: u32, at: u32) -> Reading<Items<VarDecl>>
+/// `var_decl {var_decl}`
+#[tactic(auto, unfolding(crate::specs::Block::declarations))]
+fn var_decls(alloc: Global, tokens: &[Token], levels: u32, at: u32) -> Reading<Items<VarDecl>>
     requires { IsPlace tokens.now at }
-    ensures place { Stays tokens.now at result }
+    ensures place { Advances tokens.now at result }
+    ensures value { Gives (spec.declarations tokens.now (spec.var_decl tokens.now levels) at) result }
 {
-    if !is_word(tokens, at, Word::WVar) {
-        return Ok(Read {
-            tree: Items::new(alloc),
-            next: at,
-        });
-    }
-    let first = var_decl(alloc, tokens, levels, at + 1)?;
+    let first = var_decl(alloc, tokens, levels, at)?;
     let mut list = listed(alloc, first).map_err(ParseFault::Memory)?;
     while is_ident(tokens, list.next) {
         let more = var_decl(alloc, tokens, levels, list.next)?;
@@ -168,10 +201,28 @@ fn var_part(alloc: Global, tokens: &[Token], levels: u32, at: u32) -> Reading<It
     Ok(list)
 }
 
+/// `["var" var_decl {var_decl}]`
+#[tactic(auto, unfolding(crate::specs::Block::var_part, crate::specs::Block::declaration_part))]
+fn var_part(alloc: Global, tokens: &[Token], levels: u32, at: u32) -> Reading<Items<VarDecl>>
+    requires { IsPlace tokens.now at }
+    ensures place { Stays tokens.now at result }
+    ensures value { Gives (spec.var_part tokens.now levels at) result }
+{
+    if is_word(tokens, at, Word::WVar) {
+        return var_decls(alloc, tokens, levels, at + 1);
+    }
+    Ok(Read {
+        tree: Items::new(alloc),
+        next: at,
+    })
+}
+
 /// `["var"] idents ":" ident`
+#[tactic(auto, unfolding(crate::specs::Block::section))]
 fn section(alloc: Global, tokens: &[Token], at: u32) -> Reading<Section>
     requires { IsPlace tokens.now at }
     ensures place { Advances tokens.now at result }
+    ensures value { Gives (spec.section tokens.now at) result }
 {
     let by_var = is_word(tokens, at, Word::WVar);
     let names = idents(alloc, tokens, if by_var { at + 1 } else { at })?;
@@ -187,10 +238,28 @@ fn section(alloc: Global, tokens: &[Token], at: u32) -> Reading<Section>
     })
 }
 
-/// `["(" section {";" section} ")"]`
+/// `section {";" section}`
+#[tactic(auto, unfolding(crate::specs::Block::sections, crate::specs::Loop::separated))]
+fn sections(alloc: Global, tokens: &[Token], at: u32) -> Reading<Items<Section>>
+    requires { IsPlace tokens.now at }
+    ensures place { Advances tokens.now at result }
+    ensures value { Gives (spec.sections tokens.now at) result }
+{
+    let first = section(alloc, tokens, at)?;
+    let mut list = listed(alloc, first).map_err(ParseFault::Memory)?;
+    while is_symbol(tokens, list.next, Symbol::Semicolon) {
+        let more = section(alloc, tokens, list.next + 1)?;
+        list = extended(list, more).map_err(ParseFault::Memory)?;
+    }
+    Ok(list)
+}
+
+/// `["(" sections ")"]`
+#[tactic(auto, unfolding(crate::specs::Block::formals))]
 fn formals(alloc: Global, tokens: &[Token], at: u32) -> Reading<Items<Section>>
     requires { IsPlace tokens.now at }
     ensures place { Stays tokens.now at result }
+    ensures value { Gives (spec.formals tokens.now at) result }
 {
     if !is_symbol(tokens, at, Symbol::LeftParen) {
         return Ok(Read {
@@ -198,23 +267,20 @@ fn formals(alloc: Global, tokens: &[Token], at: u32) -> Reading<Items<Section>>
             next: at,
         });
     }
-    let first = section(alloc, tokens, at + 1)?;
-    let mut list = listed(alloc, first).map_err(ParseFault::Memory)?;
-    while is_symbol(tokens, list.next, Symbol::Semicolon) {
-        let more = section(alloc, tokens, list.next + 1)?;
-        list = extended(list, more).map_err(ParseFault::Memory)?;
-    }
-    let next = expect_symbol(tokens, list.next, Symbol::RightParen)?;
+    let found = sections(alloc, tokens, at + 1)?;
+    let next = expect_symbol(tokens, found.next, Symbol::RightParen)?;
     Ok(Read {
-        tree: list.tree,
+        tree: found.tree,
         next,
     })
 }
 
 /// `[":" ident]`, which only a function has.
+#[tactic(auto, unfolding(crate::specs::Block::result_type))]
 fn result_type(tokens: &[Token], function: bool, at: u32) -> Reading<Option<Span>>
     requires { IsPlace tokens.now at }
     ensures place { Stays tokens.now at result }
+    ensures value { Gives (spec.result_type tokens.now function at) result }
 {
     if !function || !is_symbol(tokens, at, Symbol::Colon) {
         return Ok(Read {
@@ -230,10 +296,12 @@ fn result_type(tokens: &[Token], function: bool, at: u32) -> Reading<Option<Span
 }
 
 /// `block | ident`
+#[tactic(auto, unfolding(crate::specs::Block::routine_body))]
 #[cycle(block)]
 fn routine_body(alloc: Global, tokens: &[Token], levels: u32, at: u32) -> Reading<RoutineBody>
     requires { IsPlace tokens.now at }
     ensures place { Advances tokens.now at result }
+    ensures value { Gives (spec.routine_body tokens.now (spec.block tokens.now levels) at) result }
 {
     if is_ident(tokens, at) {
         return Ok(Read {
@@ -249,11 +317,13 @@ fn routine_body(alloc: Global, tokens: &[Token], levels: u32, at: u32) -> Readin
 }
 
 /// A procedure or a function from its first word on, with the semicolon after it.
+#[tactic(auto, unfolding(crate::specs::Block::routine))]
 #[cycle(block)]
 fn routine(alloc: Global, tokens: &[Token], levels: u32, at: u32) -> Reading<Routine>
     requires place { IsPlace tokens.now at }
     requires inside { at < length tokens.now }
     ensures place { Advances tokens.now at result }
+    ensures value { Gives (spec.routine tokens.now (spec.block tokens.now levels) at) result }
 {
     let function = is_word(tokens, at, Word::WFunction);
     let formals = formals(alloc, tokens, expect_ident(tokens, at + 1)?)?;
@@ -273,8 +343,10 @@ fn routine(alloc: Global, tokens: &[Token], levels: u32, at: u32) -> Reading<Rou
     })
 }
 
+#[tactic(auto, unfolding(crate::specs::Block::begins_routine))]
 fn begins_routine(tokens: &[Token], at: u32) -> bool
     ensures inside { IsTrue result → at < length tokens.now }
+    ensures value { result ≡ spec.begins_routine (kind_at tokens.now at) }
 {
     matches!(
         kind_at(tokens, at),
@@ -283,10 +355,12 @@ fn begins_routine(tokens: &[Token], at: u32) -> bool
 }
 
 /// `{routine ";"}`
+#[tactic(auto, unfolding(crate::specs::Block::routines))]
 #[cycle(block)]
 fn routines(alloc: Global, tokens: &[Token], levels: u32, at: u32) -> Reading<Items<Routine>>
     requires { IsPlace tokens.now at }
     ensures place { Stays tokens.now at result }
+    ensures value { Gives (spec.routines tokens.now (spec.block tokens.now levels) at) result }
 {
     let mut list = Read {
         tree: Items::new(alloc),
@@ -300,10 +374,12 @@ fn routines(alloc: Global, tokens: &[Token], levels: u32, at: u32) -> Reading<It
 }
 
 /// A block, which is a level of its own.
+#[tactic(auto, unfolding(crate::specs::Block::block))]
 #[cycle(block)]
 pub fn block(alloc: Global, tokens: &[Token], levels: u32, at: u32) -> Reading<Block>
     requires { IsPlace tokens.now at }
     ensures place { Advances tokens.now at result }
+    ensures value { Gives (spec.block tokens.now levels at) result }
 {
     if levels == 0 {
         return Err(refusal(begins_block(kind_at(tokens, at)), at));
@@ -312,10 +388,12 @@ pub fn block(alloc: Global, tokens: &[Token], levels: u32, at: u32) -> Reading<B
 }
 
 /// The declarations and the statement part, with the levels that they have.
+#[tactic(auto, unfolding(crate::specs::Block::measured_block))]
 #[cycle(block)]
 fn measured_block(alloc: Global, tokens: &[Token], levels: u32, at: u32) -> Reading<Block>
     requires { IsPlace tokens.now at }
     ensures place { Advances tokens.now at result }
+    ensures value { Gives (spec.measured_block tokens.now (spec.block tokens.now levels) levels at) result }
 {
     let labels = label_part(alloc, tokens, at)?;
     let consts = const_part(alloc, tokens, labels.next)?;

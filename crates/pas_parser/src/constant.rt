@@ -1,7 +1,7 @@
 //! Constants (ISO 7185, 6.3), labels and lists of identifiers.
 
-ghost use Rattle.std.specs.Prelude.{◌≡◌, ◌<◌, ◌+◌, length, IfOk, MatchResult};
-ghost use Rattle.pas_parser.specs.Outcome.{IsPlace};
+ghost use Rattle.pas_parser.specs.Constant as spec;
+ghost use Rattle.pas_parser.specs.Outcome.{Gives, IsPlace};
 ghost use Rattle.pas_parser.specs.Reading.{Advances};
 
 use crate::fault::ParseFault;
@@ -15,9 +15,11 @@ use sqlite_items::Items;
 use std::alloc::Global;
 
 /// A number with its place, as the one token that a label is.
+#[tactic(auto, unfolding(crate::specs::Constant::label, crate::specs::Constant::label_by))]
 pub fn label(tokens: &[Token], at: u32) -> Result<Read<Label>, ParseFault>
     requires { IsPlace tokens.now at }
     ensures place { Advances tokens.now at result }
+    ensures value { Gives (spec.label tokens.now at) result }
 {
     match kind_at(tokens, at) {
         Some(TokenKind::Number(value)) => Ok(Read {
@@ -32,9 +34,11 @@ pub fn label(tokens: &[Token], at: u32) -> Result<Read<Label>, ParseFault>
 }
 
 /// `number | ident`
+#[tactic(auto, unfolding(crate::specs::Constant::constant_value, crate::specs::Constant::constant_value_by))]
 fn constant_value(tokens: &[Token], at: u32) -> Result<Read<ConstantValue>, ParseFault>
     requires { IsPlace tokens.now at }
     ensures place { Advances tokens.now at result }
+    ensures value { Gives (spec.constant_value tokens.now at) result }
 {
     let tree = match kind_at(tokens, at) {
         Some(TokenKind::Number(value)) => ConstantValue::Number(value),
@@ -45,9 +49,11 @@ fn constant_value(tokens: &[Token], at: u32) -> Result<Read<ConstantValue>, Pars
 }
 
 /// `[sign] (number | ident)`
+#[tactic(auto, unfolding(crate::specs::Constant::constant, crate::specs::Constant::constant_by))]
 pub fn constant(tokens: &[Token], at: u32) -> Result<Read<Constant>, ParseFault>
     requires { IsPlace tokens.now at }
     ensures place { Advances tokens.now at result }
+    ensures value { Gives (spec.constant tokens.now at) result }
 {
     let sign = sign(kind_at(tokens, at));
     let value = match sign {
@@ -65,9 +71,11 @@ pub fn constant(tokens: &[Token], at: u32) -> Result<Read<Constant>, ParseFault>
 }
 
 /// An identifier by its place.
+#[tactic(auto, unfolding(crate::specs::Constant::ident))]
 fn ident(tokens: &[Token], at: u32) -> Result<Read<Span>, ParseFault>
     requires { IsPlace tokens.now at }
     ensures place { Advances tokens.now at result }
+    ensures value { Gives (spec.ident tokens.now at) result }
 {
     let next = expect_ident(tokens, at)?;
     Ok(Read {
@@ -77,9 +85,11 @@ fn ident(tokens: &[Token], at: u32) -> Result<Read<Span>, ParseFault>
 }
 
 /// `ident {"," ident}`
+#[tactic(auto, unfolding(crate::specs::Constant::idents, crate::specs::Loop::separated))]
 pub fn idents(alloc: Global, tokens: &[Token], at: u32) -> Result<Read<Items<Span>>, ParseFault>
     requires { IsPlace tokens.now at }
     ensures place { Advances tokens.now at result }
+    ensures value { Gives (spec.idents tokens.now at) result }
 {
     let first = ident(tokens, at)?;
     let mut list = listed(alloc, first).map_err(ParseFault::Memory)?;
@@ -91,9 +101,11 @@ pub fn idents(alloc: Global, tokens: &[Token], at: u32) -> Result<Read<Items<Spa
 }
 
 /// `number {"," number}`
+#[tactic(auto, unfolding(crate::specs::Constant::labels, crate::specs::Loop::separated))]
 pub fn labels(alloc: Global, tokens: &[Token], at: u32) -> Result<Read<Items<Label>>, ParseFault>
     requires { IsPlace tokens.now at }
     ensures place { Advances tokens.now at result }
+    ensures value { Gives (spec.labels tokens.now at) result }
 {
     let first = label(tokens, at)?;
     let mut list = listed(alloc, first).map_err(ParseFault::Memory)?;
@@ -105,6 +117,7 @@ pub fn labels(alloc: Global, tokens: &[Token], at: u32) -> Result<Read<Items<Lab
 }
 
 /// `constant {"," constant}`
+#[tactic(auto, unfolding(crate::specs::Constant::constants, crate::specs::Loop::separated))]
 pub fn constants(
     alloc: Global,
     tokens: &[Token],
@@ -112,6 +125,7 @@ pub fn constants(
 ) -> Result<Read<Items<Constant>>, ParseFault>
     requires { IsPlace tokens.now at }
     ensures place { Advances tokens.now at result }
+    ensures value { Gives (spec.constants tokens.now at) result }
 {
     let first = constant(tokens, at)?;
     let mut list = listed(alloc, first).map_err(ParseFault::Memory)?;

@@ -1,13 +1,15 @@
 //! Expressions (ISO 7185, 6.7) and variables with subscripts (6.5).
 
-ghost use Rattle.std.specs.Prelude.{◌≡◌, ◌<◌, ◌+◌, ◌^◌, max, length, IfOk};
-ghost use Rattle.pas_parser.specs.Outcome.{IsAt, IsPlace};
+ghost use Rattle.std.specs.Prelude.{◌≡◌, ◌<◌, max, length, IfOk};
+ghost use Rattle.pas_parser.specs.Expr as spec;
+ghost use Rattle.pas_parser.specs.Look.{kind_at};
+ghost use Rattle.pas_parser.specs.Outcome.{Gives, IsAt, IsPlace};
 ghost use Rattle.pas_parser.specs.Reading.{Measures, MeasuresAny};
 
 use crate::fault::ParseFault;
 use crate::look::{cover, expect_symbol, is_symbol, kind_at, span_at};
 use crate::operator::{adding, multiplying, relation, sign};
-use crate::reading::{Measured, gathered, joined};
+use crate::reading::{Measured, appended, deeper, gathered, joined};
 use pas_lexer::{Symbol, Token, TokenKind, Word};
 use pas_tree::{Access, Actual, ActualValue, Expr};
 use px_base::BinOp;
@@ -16,7 +18,10 @@ use std::alloc::{AllocError, Global};
 
 type Reading<T> = Result<Measured<T>, ParseFault>;
 
-fn begins_factor(kind: Option<TokenKind>) -> bool {
+#[tactic(auto, unfolding(crate::specs::Expr::begins_factor))]
+fn begins_factor(kind: Option<TokenKind>) -> bool
+    ensures { result ≡ spec.begins_factor kind }
+{
     matches!(
         kind,
         Some(
@@ -28,7 +33,10 @@ fn begins_factor(kind: Option<TokenKind>) -> bool {
     )
 }
 
-fn begins_expr(kind: Option<TokenKind>) -> bool {
+#[tactic(auto, unfolding(crate::specs::Expr::begins_expr, crate::specs::Expr::begins_factor))]
+fn begins_expr(kind: Option<TokenKind>) -> bool
+    ensures { result ≡ spec.begins_expr kind }
+{
     match kind {
         Some(TokenKind::Symbol(Symbol::Plus | Symbol::Minus)) => true,
         _ => begins_factor(kind),
@@ -36,8 +44,10 @@ fn begins_expr(kind: Option<TokenKind>) -> bool {
 }
 
 /// Why nothing can be read where no level is left: a token that begins nothing is unexpected at any depth.
+#[tactic(auto, unfolding(crate::specs::Expr::refusal))]
 pub fn refusal(begins: bool, at: u32) -> ParseFault
-    ensures { IsAt at result }
+    ensures value { result ≡ spec.refusal begins at }
+    ensures own { IsAt at result }
 {
     if begins {
         ParseFault::TooDeep { token: at }
@@ -46,19 +56,8 @@ pub fn refusal(begins: bool, at: u32) -> ParseFault
     }
 }
 
-fn deeper<T>(found: Measured<T>) -> Measured<T>
-    requires { found.height + 1 < 2 ^ 32 }
-    ensures { (result.next ≡ found.next) × (result.height ≡ found.height + 1) }
-{
-    let Measured { tree, height, next } = found;
-    Measured {
-        tree,
-        height: height + 1,
-        next,
-    }
-}
-
 /// An operator, which stands after its left operand, with its two operands. The left one begins at `at`.
+#[tactic(auto, unfolding(crate::specs::Expr::binary))]
 fn binary(
     alloc: Global,
     tokens: &[Token],
@@ -68,7 +67,8 @@ fn binary(
     right: Measured<Expr>,
 ) -> Result<Measured<Expr>, AllocError>
     requires { at < right.next }
-    ensures { IfOk result (λ r. (r.next ≡ right.next) × (r.height ≡ max left.height right.height)) }
+    ensures value { IfOk result (λ r. r ≡ spec.binary tokens.now at op left right) }
+    ensures size { IfOk result (λ r. (r.next ≡ right.next) × (r.height ≡ max left.height right.height)) }
 {
     Ok(Measured {
         tree: Expr::Binary {
@@ -88,6 +88,7 @@ fn binary(
 pub fn expr(alloc: Global, tokens: &[Token], levels: u32, at: u32) -> Reading<Expr>
     requires { IsPlace tokens.now at }
     ensures place { Measures tokens.now levels at result }
+    ensures value { Gives (spec.expr tokens.now levels at) result }
 {
     if levels == 0 {
         return Err(refusal(begins_expr(kind_at(tokens, at)), at));
@@ -96,10 +97,12 @@ pub fn expr(alloc: Global, tokens: &[Token], levels: u32, at: u32) -> Reading<Ex
 }
 
 /// `simple [relation simple]`
+#[tactic(auto, unfolding(crate::specs::Expr::comparison, crate::specs::Expr::comparison_by))]
 #[cycle(expr)]
 fn comparison(alloc: Global, tokens: &[Token], levels: u32, at: u32) -> Reading<Expr>
     requires { IsPlace tokens.now at }
     ensures place { Measures tokens.now levels at result }
+    ensures value { Gives (spec.comparison tokens.now (spec.simple tokens.now levels) at) result }
 {
     let left = simple(alloc, tokens, levels, at)?;
     let Some(op) = relation(kind_at(tokens, left.next)) else {
@@ -114,6 +117,7 @@ fn comparison(alloc: Global, tokens: &[Token], levels: u32, at: u32) -> Reading<
 fn simple(alloc: Global, tokens: &[Token], levels: u32, at: u32) -> Reading<Expr>
     requires { IsPlace tokens.now at }
     ensures place { Measures tokens.now levels at result }
+    ensures value { Gives (spec.simple tokens.now levels at) result }
 {
     let mut left = signed(alloc, tokens, levels, at)?;
     while let Some(op) = adding(kind_at(tokens, left.next)) {
@@ -127,10 +131,12 @@ fn simple(alloc: Global, tokens: &[Token], levels: u32, at: u32) -> Reading<Expr
 }
 
 /// `[sign] term`
+#[tactic(auto, unfolding(crate::specs::Expr::signed, crate::specs::Expr::signed_by))]
 #[cycle(expr)]
 fn signed(alloc: Global, tokens: &[Token], levels: u32, at: u32) -> Reading<Expr>
     requires { IsPlace tokens.now at }
     ensures place { Measures tokens.now levels at result }
+    ensures value { Gives (spec.signed tokens.now (spec.term tokens.now levels) at) result }
 {
     let Some(sign) = sign(kind_at(tokens, at)) else {
         return term(alloc, tokens, levels, at);
@@ -153,6 +159,7 @@ fn signed(alloc: Global, tokens: &[Token], levels: u32, at: u32) -> Reading<Expr
 fn term(alloc: Global, tokens: &[Token], levels: u32, at: u32) -> Reading<Expr>
     requires { IsPlace tokens.now at }
     ensures place { Measures tokens.now levels at result }
+    ensures value { Gives (spec.term tokens.now levels at) result }
 {
     let mut left = factor(alloc, tokens, levels, at)?;
     while let Some(op) = multiplying(kind_at(tokens, left.next)) {
@@ -165,10 +172,12 @@ fn term(alloc: Global, tokens: &[Token], levels: u32, at: u32) -> Reading<Expr>
     Ok(left)
 }
 
+#[tactic(auto, unfolding(crate::specs::Expr::factor, crate::specs::Expr::factor_over, crate::specs::Expr::factor_by, crate::specs::Expr::expr))]
 #[cycle(expr)]
 fn factor(alloc: Global, tokens: &[Token], levels: u32, at: u32) -> Reading<Expr>
     requires { IsPlace tokens.now at }
     ensures place { Measures tokens.now levels at result }
+    ensures value { Gives (spec.factor tokens.now levels at) result }
 {
     match kind_at(tokens, at) {
         Some(TokenKind::Number(value)) => Ok(Measured {
@@ -187,11 +196,13 @@ fn factor(alloc: Global, tokens: &[Token], levels: u32, at: u32) -> Reading<Expr
 }
 
 /// `"(" expr ")"`
+#[tactic(auto, unfolding(crate::specs::Expr::parenthesized))]
 #[cycle(expr)]
 fn parenthesized(alloc: Global, tokens: &[Token], levels: u32, at: u32) -> Reading<Expr>
     requires place { IsPlace tokens.now at }
     requires inside { at < length tokens.now }
     ensures place { Measures tokens.now levels at result }
+    ensures value { Gives (spec.parenthesized tokens.now (spec.expr tokens.now levels) at) result }
 {
     let inner = expr(alloc, tokens, levels, at + 1)?;
     let next = expect_symbol(tokens, inner.next, Symbol::RightParen)?;
@@ -206,11 +217,13 @@ fn parenthesized(alloc: Global, tokens: &[Token], levels: u32, at: u32) -> Readi
 }
 
 /// `"not" factor`, where the factor is a level of its own.
+#[tactic(auto, unfolding(crate::specs::Expr::negation))]
 #[cycle(expr)]
 fn negation(alloc: Global, tokens: &[Token], levels: u32, at: u32) -> Reading<Expr>
     requires place { IsPlace tokens.now at }
     requires inside { at < length tokens.now }
     ensures place { Measures tokens.now levels at result }
+    ensures value { Gives (spec.negation tokens.now (spec.up_to tokens.now levels).factor at) result }
 {
     if levels == 0 {
         return Err(refusal(begins_factor(kind_at(tokens, at + 1)), at + 1));
@@ -228,11 +241,13 @@ fn negation(alloc: Global, tokens: &[Token], levels: u32, at: u32) -> Reading<Ex
 }
 
 /// A name with its subscripts, or with its actuals if it has some.
+#[tactic(auto, unfolding(crate::specs::Expr::named, crate::specs::Expr::indexed, crate::specs::Expr::call))]
 #[cycle(expr)]
 fn named(alloc: Global, tokens: &[Token], levels: u32, at: u32) -> Reading<Expr>
     requires place { IsPlace tokens.now at }
     requires inside { at < length tokens.now }
     ensures place { Measures tokens.now levels at result }
+    ensures value { Gives (spec.named tokens.now (spec.expr tokens.now levels) at) result }
 {
     if is_symbol(tokens, at + 1, Symbol::LeftBracket) {
         let found = access(alloc, tokens, levels, at)?;
@@ -245,7 +260,7 @@ fn named(alloc: Global, tokens: &[Token], levels: u32, at: u32) -> Reading<Expr>
             next: found.next,
         });
     }
-    let found = actuals(alloc, tokens, levels, at + 1)?;
+    let found = arguments(alloc, tokens, levels, at + 1)?;
     Ok(Measured {
         tree: Expr::Name {
             name: span_at(tokens, at),
@@ -258,37 +273,71 @@ fn named(alloc: Global, tokens: &[Token], levels: u32, at: u32) -> Reading<Expr>
 }
 
 /// `ident {"[" exprs "]"}`
+#[tactic(auto, unfolding(crate::specs::Expr::access))]
 #[cycle(expr)]
 pub fn access(alloc: Global, tokens: &[Token], levels: u32, at: u32) -> Reading<Access>
     requires place { IsPlace tokens.now at }
     requires inside { at < length tokens.now }
     ensures place { Measures tokens.now levels at result }
+    ensures value { Gives (spec.access tokens.now (spec.expr tokens.now levels) at) result }
 {
-    let mut subscripts = Items::new(alloc);
-    let mut height = 0u32;
-    let mut next = at + 1;
-    while is_symbol(tokens, next, Symbol::LeftBracket) {
-        let more = exprs(alloc, tokens, levels, next + 1)?;
-        next = expect_symbol(tokens, more.next, Symbol::RightBracket)?;
-        subscripts.append(more.tree).map_err(ParseFault::Memory)?;
-        height = height.max(more.height);
-    }
+    let found = subscripts(alloc, tokens, levels, at + 1)?;
     Ok(Measured {
         tree: Access {
             name: span_at(tokens, at),
-            subscripts,
-            span: cover(tokens, at, next),
+            subscripts: found.tree,
+            span: cover(tokens, at, found.next),
         },
-        height,
+        height: found.height,
+        next: found.next,
+    })
+}
+
+/// `{"[" exprs "]"}`, as one list.
+#[tactic(auto, unfolding(crate::specs::Expr::subscripts))]
+#[cycle(expr)]
+fn subscripts(alloc: Global, tokens: &[Token], levels: u32, at: u32) -> Reading<Items<Expr>>
+    requires { IsPlace tokens.now at }
+    ensures place { MeasuresAny tokens.now levels at result }
+    ensures value { Gives (spec.subscripts tokens.now (spec.expr tokens.now levels) at) result }
+{
+    let mut list = Measured {
+        tree: Items::new(alloc),
+        height: 0,
+        next: at,
+    };
+    while is_symbol(tokens, list.next, Symbol::LeftBracket) {
+        let more = bracketed(alloc, tokens, levels, list.next)?;
+        list = appended(list, more).map_err(ParseFault::Memory)?;
+    }
+    Ok(list)
+}
+
+/// `"[" exprs "]"`
+#[tactic(auto, unfolding(crate::specs::Expr::bracketed))]
+#[cycle(expr)]
+fn bracketed(alloc: Global, tokens: &[Token], levels: u32, at: u32) -> Reading<Items<Expr>>
+    requires place { IsPlace tokens.now at }
+    requires inside { at < length tokens.now }
+    ensures place { Measures tokens.now levels at result }
+    ensures value { Gives (spec.bracketed tokens.now (spec.expr tokens.now levels) at) result }
+{
+    let found = exprs(alloc, tokens, levels, at + 1)?;
+    let next = expect_symbol(tokens, found.next, Symbol::RightBracket)?;
+    Ok(Measured {
+        tree: found.tree,
+        height: found.height,
         next,
     })
 }
 
 /// `expr {"," expr}`
+#[tactic(auto, unfolding(crate::specs::Expr::exprs, crate::specs::Loop::separated_measured))]
 #[cycle(expr)]
 fn exprs(alloc: Global, tokens: &[Token], levels: u32, at: u32) -> Reading<Items<Expr>>
     requires { IsPlace tokens.now at }
     ensures place { Measures tokens.now levels at result }
+    ensures value { Gives (spec.exprs tokens.now (spec.expr tokens.now levels) at) result }
 {
     let first = expr(alloc, tokens, levels, at)?;
     let mut list = gathered(alloc, first).map_err(ParseFault::Memory)?;
@@ -299,11 +348,13 @@ fn exprs(alloc: Global, tokens: &[Token], levels: u32, at: u32) -> Reading<Items
     Ok(list)
 }
 
-/// `["(" actual {"," actual} ")"]`
+/// `["(" actuals ")"]`
+#[tactic(auto, unfolding(crate::specs::Expr::arguments))]
 #[cycle(expr)]
-pub fn actuals(alloc: Global, tokens: &[Token], levels: u32, at: u32) -> Reading<Items<Actual>>
+pub fn arguments(alloc: Global, tokens: &[Token], levels: u32, at: u32) -> Reading<Items<Actual>>
     requires { IsPlace tokens.now at }
     ensures place { MeasuresAny tokens.now levels at result }
+    ensures value { Gives (spec.arguments tokens.now (spec.expr tokens.now levels) at) result }
 {
     if !is_symbol(tokens, at, Symbol::LeftParen) {
         return Ok(Measured {
@@ -312,25 +363,39 @@ pub fn actuals(alloc: Global, tokens: &[Token], levels: u32, at: u32) -> Reading
             next: at,
         });
     }
-    let first = actual(alloc, tokens, levels, at + 1)?;
+    let found = actuals(alloc, tokens, levels, at + 1)?;
+    let next = expect_symbol(tokens, found.next, Symbol::RightParen)?;
+    Ok(Measured {
+        tree: found.tree,
+        height: found.height,
+        next,
+    })
+}
+
+/// `actual {"," actual}`
+#[tactic(auto, unfolding(crate::specs::Expr::actuals, crate::specs::Loop::separated_measured))]
+#[cycle(expr)]
+fn actuals(alloc: Global, tokens: &[Token], levels: u32, at: u32) -> Reading<Items<Actual>>
+    requires { IsPlace tokens.now at }
+    ensures place { Measures tokens.now levels at result }
+    ensures value { Gives (spec.actuals tokens.now (spec.expr tokens.now levels) at) result }
+{
+    let first = actual(alloc, tokens, levels, at)?;
     let mut list = gathered(alloc, first).map_err(ParseFault::Memory)?;
     while is_symbol(tokens, list.next, Symbol::Comma) {
         let more = actual(alloc, tokens, levels, list.next + 1)?;
         list = joined(list, more).map_err(ParseFault::Memory)?;
     }
-    let next = expect_symbol(tokens, list.next, Symbol::RightParen)?;
-    Ok(Measured {
-        tree: list.tree,
-        height: list.height,
-        next,
-    })
+    Ok(list)
 }
 
 /// `(expr | string) [":" expr]`
+#[tactic(auto, unfolding(crate::specs::Expr::actual))]
 #[cycle(expr)]
 fn actual(alloc: Global, tokens: &[Token], levels: u32, at: u32) -> Reading<Actual>
     requires { IsPlace tokens.now at }
     ensures place { Measures tokens.now levels at result }
+    ensures value { Gives (spec.actual tokens.now (spec.expr tokens.now levels) at) result }
 {
     let value = actual_value(alloc, tokens, levels, at)?;
     let width = width(alloc, tokens, levels, value.next)?;
@@ -344,10 +409,12 @@ fn actual(alloc: Global, tokens: &[Token], levels: u32, at: u32) -> Reading<Actu
     })
 }
 
+#[tactic(auto, unfolding(crate::specs::Expr::actual_value))]
 #[cycle(expr)]
 fn actual_value(alloc: Global, tokens: &[Token], levels: u32, at: u32) -> Reading<ActualValue>
     requires { IsPlace tokens.now at }
     ensures place { Measures tokens.now levels at result }
+    ensures value { Gives (spec.actual_value tokens.now (spec.expr tokens.now levels) (kind_at tokens.now at) at) result }
 {
     if let Some(TokenKind::Text) = kind_at(tokens, at) {
         return Ok(Measured {
@@ -365,10 +432,12 @@ fn actual_value(alloc: Global, tokens: &[Token], levels: u32, at: u32) -> Readin
 }
 
 /// `[":" expr]`
+#[tactic(auto, unfolding(crate::specs::Expr::width))]
 #[cycle(expr)]
 fn width(alloc: Global, tokens: &[Token], levels: u32, at: u32) -> Reading<Option<Expr>>
     requires { IsPlace tokens.now at }
     ensures place { MeasuresAny tokens.now levels at result }
+    ensures value { Gives (spec.width tokens.now (spec.expr tokens.now levels) at) result }
 {
     if !is_symbol(tokens, at, Symbol::Colon) {
         return Ok(Measured {

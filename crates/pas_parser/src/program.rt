@@ -2,7 +2,7 @@
 
 ghost use Rattle.std.specs.Prelude.{◌≡◌, ◌≤◌, length};
 ghost use Rattle.pas_parser.specs.Program as spec;
-ghost use Rattle.pas_parser.specs.Outcome.{IsPlace};
+ghost use Rattle.pas_parser.specs.Outcome.{Gives, IsPlace};
 ghost use Rattle.pas_parser.specs.Reading.{Advances, Stays};
 
 use crate::block::block;
@@ -17,9 +17,11 @@ use std::alloc::Global;
 const MAX_DEPTH: u32 = 200;
 
 /// `["(" idents ")"]`, whose names declare nothing: the place after it.
+#[tactic(auto, unfolding(crate::specs::Program::parameters))]
 fn parameters(alloc: Global, tokens: &[Token], at: u32) -> Result<u32, ParseFault>
     requires { IsPlace tokens.now at }
     ensures place { spec.StaysAt tokens.now at result }
+    ensures value { Gives (spec.parameters tokens.now at) result }
 {
     if !is_symbol(tokens, at, Symbol::LeftParen) {
         return Ok(at);
@@ -33,9 +35,11 @@ fn parameters(alloc: Global, tokens: &[Token], at: u32) -> Result<u32, ParseFaul
 /// # Errors
 ///
 /// Of the two faults the one at the earlier token counts, and at one token `NoRule`.
+#[tactic(auto, unfolding(crate::specs::Program::program, crate::specs::Program::nothing_at))]
 pub fn parse(alloc: Global, tokens: &[Token]) -> Result<Tree, ParseFault>
     requires { length tokens.now ≤ 1048576 }
     ensures within { spec.Faults tokens.now result }
+    ensures value { Gives (spec.program tokens.now) result }
 {
     let name = expect_word(tokens, 0, Word::WProgram)?;
     let semicolon = parameters(alloc, tokens, expect_ident(tokens, name)?)?;

@@ -1,6 +1,6 @@
 //! What the productions answer.
 
-ghost use Rattle.std.specs.Prelude.{◌≡◌, IfOk};
+ghost use Rattle.std.specs.Prelude.{◌≡◌, ◌+◌, ◌<◌, ◌^◌, IfOk};
 ghost use Rattle.pas_parser.specs.Reading as spec;
 
 use sqlite_items::Items;
@@ -81,4 +81,37 @@ pub fn joined<T: Drop>(
         height: height.max(more.height),
         next: more.next,
     })
+}
+
+/// The list with those of another at its end.
+pub fn appended<T: Drop>(
+    list: Measured<Items<T>>,
+    more: Measured<Items<T>>,
+) -> Result<Measured<Items<T>>, AllocError>
+    ensures { IfOk result (λ r. r ≡ spec.appended list more) }
+{
+    let Measured {
+        mut tree,
+        height,
+        ..
+    } = list;
+    tree.append(more.tree)?;
+    Ok(Measured {
+        tree,
+        height: height.max(more.height),
+        next: more.next,
+    })
+}
+
+/// What was read, with one level more around it.
+pub fn deeper<T>(found: Measured<T>) -> Measured<T>
+    requires { found.height + 1 < 2 ^ 32 }
+    ensures { result ≡ spec.deeper found }
+{
+    let Measured { tree, height, next } = found;
+    Measured {
+        tree,
+        height: height + 1,
+        next,
+    }
 }

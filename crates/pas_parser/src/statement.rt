@@ -1,11 +1,13 @@
 //! Statements (ISO 7185, 6.8) with their labels and assertions.
 
 ghost use Rattle.std.specs.Prelude.{◌≡◌, ◌<◌, length, IsTrue};
-ghost use Rattle.pas_parser.specs.Outcome.{IsPlace};
+ghost use Rattle.pas_parser.specs.Statement as spec;
+ghost use Rattle.pas_parser.specs.Look.{kind_at};
+ghost use Rattle.pas_parser.specs.Outcome.{Gives, IsPlace, Steps};
 ghost use Rattle.pas_parser.specs.Reading.{Advances, Stays};
 
 use crate::constant::{constants, label};
-use crate::expr::{access, actuals, expr};
+use crate::expr::{access, arguments, expr};
 use crate::fault::ParseFault;
 use crate::look::{
     cover, expect_ident, expect_symbol, expect_word, is_symbol, is_word, kind_at, span_at,
@@ -18,7 +20,10 @@ use std::alloc::Global;
 
 type Reading<T> = Result<Read<T>, ParseFault>;
 
-fn begins_statement(kind: Option<TokenKind>) -> bool {
+#[tactic(auto, unfolding(crate::specs::Statement::begins_statement))]
+fn begins_statement(kind: Option<TokenKind>) -> bool
+    ensures { result ≡ spec.begins_statement kind }
+{
     matches!(
         kind,
         Some(
@@ -39,9 +44,11 @@ fn begins_statement(kind: Option<TokenKind>) -> bool {
 }
 
 /// `[number ":"]`
+#[tactic(auto, unfolding(crate::specs::Statement::label_part, crate::specs::Statement::label_part_by))]
 fn label_part(tokens: &[Token], at: u32) -> Reading<Option<Label>>
     requires { IsPlace tokens.now at }
     ensures place { Stays tokens.now at result }
+    ensures value { Gives (spec.label_part tokens.now at) result }
 {
     let Some(TokenKind::Number(_)) = kind_at(tokens, at) else {
         return Ok(Read {
@@ -57,38 +64,61 @@ fn label_part(tokens: &[Token], at: u32) -> Reading<Option<Label>>
     })
 }
 
+#[tactic(auto, unfolding(crate::specs::Statement::begins_assertion))]
 fn begins_assertion(tokens: &[Token], at: u32) -> bool
     ensures inside { IsTrue result → at < length tokens.now }
+    ensures value { result ≡ spec.begins_assertion (kind_at tokens.now at) }
 {
     matches!(kind_at(tokens, at), Some(TokenKind::AssertStart))
 }
 
+#[tactic(auto, unfolding(crate::specs::Statement::is_query))]
+fn is_query(tokens: &[Token], at: u32) -> bool
+    ensures value { result ≡ spec.is_query (kind_at tokens.now at) }
+    ensures inside { IsTrue result → at < length tokens.now }
+{
+    matches!(kind_at(tokens, at), Some(TokenKind::Query))
+}
+
+/// The place after `%}`, which has to stand here.
+#[tactic(auto, unfolding(crate::specs::Statement::assertion_end, crate::specs::Statement::assertion_end_by))]
+fn assertion_end(tokens: &[Token], at: u32) -> Result<u32, ParseFault>
+    requires { IsPlace tokens.now at }
+    ensures { Steps tokens.now at (spec.assertion_end tokens.now at) result }
+{
+    match kind_at(tokens, at) {
+        Some(TokenKind::AssertEnd) => Ok(at + 1),
+        _ => Err(ParseFault::NoRule { token: at }),
+    }
+}
+
 /// `"{%" expr ["?"] "%}"`
+#[tactic(auto, unfolding(crate::specs::Statement::assertion))]
 fn assertion(alloc: Global, tokens: &[Token], levels: u32, at: u32) -> Reading<Assertion>
     requires place { IsPlace tokens.now at }
     requires inside { at < length tokens.now }
     ensures place { Advances tokens.now at result }
+    ensures value { Gives (spec.assertion tokens.now levels at) result }
 {
     let cond = expr(alloc, tokens, levels, at + 1)?;
-    let sometime = matches!(kind_at(tokens, cond.next), Some(TokenKind::Query));
-    let end = if sometime { cond.next + 1 } else { cond.next };
-    let Some(TokenKind::AssertEnd) = kind_at(tokens, end) else {
-        return Err(ParseFault::NoRule { token: end });
-    };
+    let sometime = is_query(tokens, cond.next);
+    let next = assertion_end(tokens, if sometime { cond.next + 1 } else { cond.next })?;
     Ok(Read {
         tree: Assertion {
             cond: cond.tree,
             sometime,
-            span: cover(tokens, at, end + 1),
+            span: cover(tokens, at, next),
         },
-        next: end + 1,
+        next,
     })
 }
 
 /// `{assertion}`
+#[tactic(auto, unfolding(crate::specs::Statement::assertions))]
 fn assertions(alloc: Global, tokens: &[Token], levels: u32, at: u32) -> Reading<Items<Assertion>>
     requires { IsPlace tokens.now at }
     ensures place { Stays tokens.now at result }
+    ensures value { Gives (spec.assertions tokens.now levels at) result }
 {
     let mut list = Read {
         tree: Items::new(alloc),
@@ -102,10 +132,12 @@ fn assertions(alloc: Global, tokens: &[Token], levels: u32, at: u32) -> Reading<
 }
 
 /// `statement {";" statement}`
+#[tactic(auto, unfolding(crate::specs::Statement::sequence, crate::specs::Loop::separated))]
 #[cycle(statement)]
 pub fn sequence(alloc: Global, tokens: &[Token], levels: u32, at: u32) -> Reading<Items<Statement>>
     requires { IsPlace tokens.now at }
     ensures place { Stays tokens.now at result }
+    ensures value { Gives (spec.sequence tokens.now (spec.statement tokens.now levels) at) result }
 {
     let first = statement(alloc, tokens, levels, at)?;
     let mut list = listed(alloc, first).map_err(ParseFault::Memory)?;
@@ -117,10 +149,12 @@ pub fn sequence(alloc: Global, tokens: &[Token], levels: u32, at: u32) -> Readin
 }
 
 /// A statement, which is a level of its own if it has a token.
+#[tactic(auto, unfolding(crate::specs::Statement::statement, crate::specs::Statement::empty))]
 #[cycle(statement)]
 fn statement(alloc: Global, tokens: &[Token], levels: u32, at: u32) -> Reading<Statement>
     requires { IsPlace tokens.now at }
     ensures place { Stays tokens.now at result }
+    ensures value { Gives (spec.statement tokens.now levels at) result }
 {
     if levels > 0 {
         return measured_statement(alloc, tokens, levels - 1, at);
@@ -140,10 +174,12 @@ fn statement(alloc: Global, tokens: &[Token], levels: u32, at: u32) -> Reading<S
 }
 
 /// `[number ":"] {assertion} [body]`, with the levels that its parts have.
+#[tactic(auto, unfolding(crate::specs::Statement::measured_statement))]
 #[cycle(statement)]
 fn measured_statement(alloc: Global, tokens: &[Token], levels: u32, at: u32) -> Reading<Statement>
     requires { IsPlace tokens.now at }
     ensures place { Stays tokens.now at result }
+    ensures value { Gives (spec.measured_statement tokens.now levels (spec.statement tokens.now levels) at) result }
 {
     let label = label_part(tokens, at)?;
     let asserts = assertions(alloc, tokens, levels, label.next)?;
@@ -159,10 +195,12 @@ fn measured_statement(alloc: Global, tokens: &[Token], levels: u32, at: u32) -> 
     })
 }
 
+#[tactic(auto, unfolding(crate::specs::Statement::body, crate::specs::Statement::body_by))]
 #[cycle(statement)]
 fn body(alloc: Global, tokens: &[Token], levels: u32, at: u32) -> Reading<Body>
     requires { IsPlace tokens.now at }
     ensures place { Stays tokens.now at result }
+    ensures value { Gives (spec.body tokens.now levels (spec.statement tokens.now levels) at) result }
 {
     match kind_at(tokens, at) {
         Some(TokenKind::Ident) => named(alloc, tokens, levels, at),
@@ -181,10 +219,12 @@ fn body(alloc: Global, tokens: &[Token], levels: u32, at: u32) -> Reading<Body>
 }
 
 /// A call or an assignment, which the token after the name tells apart.
+#[tactic(auto, unfolding(crate::specs::Statement::named, crate::specs::Statement::named_by))]
 fn named(alloc: Global, tokens: &[Token], levels: u32, at: u32) -> Reading<Body>
     requires place { IsPlace tokens.now at }
     requires inside { at < length tokens.now }
     ensures place { Advances tokens.now at result }
+    ensures value { Gives (spec.named tokens.now levels at) result }
 {
     match kind_at(tokens, at + 1) {
         Some(TokenKind::Symbol(Symbol::LeftBracket | Symbol::Assign)) => {
@@ -195,12 +235,14 @@ fn named(alloc: Global, tokens: &[Token], levels: u32, at: u32) -> Reading<Body>
 }
 
 /// `ident ["(" actuals ")"]`
+#[tactic(auto, unfolding(crate::specs::Statement::call))]
 fn call(alloc: Global, tokens: &[Token], levels: u32, at: u32) -> Reading<Body>
     requires place { IsPlace tokens.now at }
     requires inside { at < length tokens.now }
     ensures place { Advances tokens.now at result }
+    ensures value { Gives (spec.call tokens.now levels at) result }
 {
-    let found = actuals(alloc, tokens, levels, at + 1)?;
+    let found = arguments(alloc, tokens, levels, at + 1)?;
     Ok(Read {
         tree: Body::Call {
             name: span_at(tokens, at),
@@ -211,10 +253,12 @@ fn call(alloc: Global, tokens: &[Token], levels: u32, at: u32) -> Reading<Body>
 }
 
 /// `ident {"[" exprs "]"} ":=" expr`
+#[tactic(auto, unfolding(crate::specs::Statement::assignment))]
 fn assignment(alloc: Global, tokens: &[Token], levels: u32, at: u32) -> Reading<Body>
     requires place { IsPlace tokens.now at }
     requires inside { at < length tokens.now }
     ensures place { Advances tokens.now at result }
+    ensures value { Gives (spec.assignment tokens.now levels at) result }
 {
     let to = access(alloc, tokens, levels, at)?;
     let from = expect_symbol(tokens, to.next, Symbol::Assign)?;
@@ -229,10 +273,12 @@ fn assignment(alloc: Global, tokens: &[Token], levels: u32, at: u32) -> Reading<
 }
 
 /// `"goto" number`
+#[tactic(auto, unfolding(crate::specs::Statement::goto))]
 fn goto(tokens: &[Token], at: u32) -> Reading<Body>
     requires place { IsPlace tokens.now at }
     requires inside { at < length tokens.now }
     ensures place { Advances tokens.now at result }
+    ensures value { Gives (spec.goto tokens.now at) result }
 {
     let found = label(tokens, at + 1)?;
     Ok(Read {
@@ -242,11 +288,13 @@ fn goto(tokens: &[Token], at: u32) -> Reading<Body>
 }
 
 /// `"begin" sequence "end"`
+#[tactic(auto, unfolding(crate::specs::Statement::compound))]
 #[cycle(statement)]
 fn compound(alloc: Global, tokens: &[Token], levels: u32, at: u32) -> Reading<Body>
     requires place { IsPlace tokens.now at }
     requires inside { at < length tokens.now }
     ensures place { Advances tokens.now at result }
+    ensures value { Gives (spec.compound tokens.now (spec.statement tokens.now levels) at) result }
 {
     let body = sequence(alloc, tokens, levels, at + 1)?;
     let next = expect_word(tokens, body.next, Word::WEnd)?;
@@ -261,6 +309,7 @@ fn compound(alloc: Global, tokens: &[Token], levels: u32, at: u32) -> Reading<Bo
 fn part(alloc: Global, tokens: &[Token], levels: u32, at: u32) -> Reading<Boxed<Statement>>
     requires { IsPlace tokens.now at }
     ensures place { Stays tokens.now at result }
+    ensures value { Gives (spec.statement tokens.now levels at) result }
 {
     let found = statement(alloc, tokens, levels, at)?;
     Ok(Read {
@@ -270,11 +319,13 @@ fn part(alloc: Global, tokens: &[Token], levels: u32, at: u32) -> Reading<Boxed<
 }
 
 /// `"if" expr "then" statement ["else" statement]`
+#[tactic(auto, unfolding(crate::specs::Statement::if_statement))]
 #[cycle(statement)]
 fn if_statement(alloc: Global, tokens: &[Token], levels: u32, at: u32) -> Reading<Body>
     requires place { IsPlace tokens.now at }
     requires inside { at < length tokens.now }
     ensures place { Advances tokens.now at result }
+    ensures value { Gives (spec.if_statement tokens.now levels (spec.statement tokens.now levels) at) result }
 {
     let cond = expr(alloc, tokens, levels, at + 1)?;
     let then = expect_word(tokens, cond.next, Word::WThen)?;
@@ -291,6 +342,7 @@ fn if_statement(alloc: Global, tokens: &[Token], levels: u32, at: u32) -> Readin
 }
 
 /// `["else" statement]`
+#[tactic(auto, unfolding(crate::specs::Statement::else_part))]
 #[cycle(statement)]
 fn else_part(
     alloc: Global,
@@ -300,6 +352,7 @@ fn else_part(
 ) -> Reading<Option<Boxed<Statement>>>
     requires { IsPlace tokens.now at }
     ensures place { Stays tokens.now at result }
+    ensures value { Gives (spec.else_part tokens.now (spec.statement tokens.now levels) at) result }
 {
     if !is_word(tokens, at, Word::WElse) {
         return Ok(Read {
@@ -315,11 +368,13 @@ fn else_part(
 }
 
 /// `"case" expr "of" element {";" element} [";"] "end"`
+#[tactic(auto, unfolding(crate::specs::Statement::case))]
 #[cycle(statement)]
 fn case(alloc: Global, tokens: &[Token], levels: u32, at: u32) -> Reading<Body>
     requires place { IsPlace tokens.now at }
     requires inside { at < length tokens.now }
     ensures place { Advances tokens.now at result }
+    ensures value { Gives (spec.case tokens.now levels (spec.statement tokens.now levels) at) result }
 {
     let of = expr(alloc, tokens, levels, at + 1)?;
     let first = expect_word(tokens, of.next, Word::WOf)?;
@@ -340,18 +395,22 @@ fn case(alloc: Global, tokens: &[Token], levels: u32, at: u32) -> Reading<Body>
 }
 
 /// Whether another element comes after a semicolon that stands here.
+#[tactic(auto, unfolding(crate::specs::Statement::has_element))]
 fn has_element(tokens: &[Token], at: u32) -> bool
     requires { IsPlace tokens.now at }
     ensures inside { IsTrue result → at < length tokens.now }
+    ensures value { result ≡ spec.has_element tokens.now at }
 {
     is_symbol(tokens, at, Symbol::Semicolon) && !is_word(tokens, at + 1, Word::WEnd)
 }
 
 /// `element {";" element}`
+#[tactic(auto, unfolding(crate::specs::Statement::elements))]
 #[cycle(statement)]
 fn elements(alloc: Global, tokens: &[Token], levels: u32, at: u32) -> Reading<Items<Element>>
     requires { IsPlace tokens.now at }
     ensures place { Advances tokens.now at result }
+    ensures value { Gives (spec.elements tokens.now (spec.statement tokens.now levels) at) result }
 {
     let first = element(alloc, tokens, levels, at)?;
     let mut list = listed(alloc, first).map_err(ParseFault::Memory)?;
@@ -363,10 +422,12 @@ fn elements(alloc: Global, tokens: &[Token], levels: u32, at: u32) -> Reading<It
 }
 
 /// `constant {"," constant} ":" statement`
+#[tactic(auto, unfolding(crate::specs::Statement::element))]
 #[cycle(statement)]
 fn element(alloc: Global, tokens: &[Token], levels: u32, at: u32) -> Reading<Element>
     requires { IsPlace tokens.now at }
     ensures place { Advances tokens.now at result }
+    ensures value { Gives (spec.element tokens.now (spec.statement tokens.now levels) at) result }
 {
     let consts = constants(alloc, tokens, at)?;
     let first = expect_symbol(tokens, consts.next, Symbol::Colon)?;
@@ -381,11 +442,13 @@ fn element(alloc: Global, tokens: &[Token], levels: u32, at: u32) -> Reading<Ele
 }
 
 /// `"while" expr "do" statement`
+#[tactic(auto, unfolding(crate::specs::Statement::while_loop))]
 #[cycle(statement)]
 fn while_loop(alloc: Global, tokens: &[Token], levels: u32, at: u32) -> Reading<Body>
     requires place { IsPlace tokens.now at }
     requires inside { at < length tokens.now }
     ensures place { Advances tokens.now at result }
+    ensures value { Gives (spec.while_loop tokens.now levels (spec.statement tokens.now levels) at) result }
 {
     let cond = expr(alloc, tokens, levels, at + 1)?;
     let first = expect_word(tokens, cond.next, Word::WDo)?;
@@ -400,11 +463,13 @@ fn while_loop(alloc: Global, tokens: &[Token], levels: u32, at: u32) -> Reading<
 }
 
 /// `"repeat" sequence "until" expr`
+#[tactic(auto, unfolding(crate::specs::Statement::repeat_loop))]
 #[cycle(statement)]
 fn repeat(alloc: Global, tokens: &[Token], levels: u32, at: u32) -> Reading<Body>
     requires place { IsPlace tokens.now at }
     requires inside { at < length tokens.now }
     ensures place { Advances tokens.now at result }
+    ensures value { Gives (spec.repeat_loop tokens.now levels (spec.statement tokens.now levels) at) result }
 {
     let body = sequence(alloc, tokens, levels, at + 1)?;
     let test = expect_word(tokens, body.next, Word::WUntil)?;
@@ -420,9 +485,11 @@ fn repeat(alloc: Global, tokens: &[Token], levels: u32, at: u32) -> Reading<Body
 }
 
 /// `"to" | "downto"`: whether the control variable goes down.
+#[tactic(auto, unfolding(crate::specs::Statement::direction, crate::specs::Statement::direction_by))]
 fn direction(tokens: &[Token], at: u32) -> Reading<bool>
     requires { IsPlace tokens.now at }
     ensures place { Advances tokens.now at result }
+    ensures value { Gives (spec.direction tokens.now at) result }
 {
     let tree = match kind_at(tokens, at) {
         Some(TokenKind::Word(Word::WTo)) => false,
@@ -433,11 +500,13 @@ fn direction(tokens: &[Token], at: u32) -> Reading<bool>
 }
 
 /// `"for" ident ":=" expr ("to" | "downto") expr "do" statement`
+#[tactic(auto, unfolding(crate::specs::Statement::for_loop))]
 #[cycle(statement)]
 fn for_loop(alloc: Global, tokens: &[Token], levels: u32, at: u32) -> Reading<Body>
     requires place { IsPlace tokens.now at }
     requires inside { at < length tokens.now }
     ensures place { Advances tokens.now at result }
+    ensures value { Gives (spec.for_loop tokens.now levels (spec.statement tokens.now levels) at) result }
 {
     let assign = expect_ident(tokens, at + 1)?;
     let from = expect_symbol(tokens, assign, Symbol::Assign)?;

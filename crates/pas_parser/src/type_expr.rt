@@ -1,7 +1,8 @@
 //! Types (ISO 7185, 6.4).
 
 ghost use Rattle.std.specs.Prelude.{◌≡◌, ◌<◌, length};
-ghost use Rattle.pas_parser.specs.Outcome.{IsPlace};
+ghost use Rattle.pas_parser.specs.TypeExpr as spec;
+ghost use Rattle.pas_parser.specs.Outcome.{Gives, IsPlace};
 ghost use Rattle.pas_parser.specs.Reading.{Advances};
 
 use crate::constant::constant;
@@ -16,7 +17,10 @@ use pas_tree::TypeExpr;
 use sqlite_items::{Boxed, Items};
 use std::alloc::Global;
 
-fn begins_type(kind: Option<TokenKind>) -> bool {
+#[tactic(auto, unfolding(crate::specs::TypeExpr::begins_type))]
+fn begins_type(kind: Option<TokenKind>) -> bool
+    ensures { result ≡ spec.begins_type kind }
+{
     matches!(
         kind,
         Some(
@@ -29,9 +33,11 @@ fn begins_type(kind: Option<TokenKind>) -> bool {
 }
 
 /// `constant ".." constant`
+#[tactic(auto, unfolding(crate::specs::TypeExpr::range))]
 fn range(tokens: &[Token], at: u32) -> Result<Read<TypeExpr>, ParseFault>
     requires { IsPlace tokens.now at }
     ensures place { Advances tokens.now at result }
+    ensures value { Gives (spec.range tokens.now at) result }
 {
     let lo = constant(tokens, at)?;
     let hi = constant(tokens, expect_symbol(tokens, lo.next, Symbol::DotDot)?)?;
@@ -46,9 +52,11 @@ fn range(tokens: &[Token], at: u32) -> Result<Read<TypeExpr>, ParseFault>
 }
 
 /// `ident [".." constant] | range`
+#[tactic(auto, unfolding(crate::specs::TypeExpr::index))]
 fn index(tokens: &[Token], at: u32) -> Result<Read<TypeExpr>, ParseFault>
     requires { IsPlace tokens.now at }
     ensures place { Advances tokens.now at result }
+    ensures value { Gives (spec.index tokens.now at) result }
 {
     if !is_ident(tokens, at) || is_symbol(tokens, at + 1, Symbol::DotDot) {
         return range(tokens, at);
@@ -62,9 +70,11 @@ fn index(tokens: &[Token], at: u32) -> Result<Read<TypeExpr>, ParseFault>
 }
 
 /// `index {"," index}`
+#[tactic(auto, unfolding(crate::specs::TypeExpr::indexes, crate::specs::Loop::separated))]
 fn indexes(alloc: Global, tokens: &[Token], at: u32) -> Result<Read<Items<TypeExpr>>, ParseFault>
     requires { IsPlace tokens.now at }
     ensures place { Advances tokens.now at result }
+    ensures value { Gives (spec.indexes tokens.now at) result }
 {
     let first = index(tokens, at)?;
     let mut list = listed(alloc, first).map_err(ParseFault::Memory)?;
@@ -76,6 +86,7 @@ fn indexes(alloc: Global, tokens: &[Token], at: u32) -> Result<Read<Items<TypeEx
 }
 
 /// A type, which is a level of its own.
+#[tactic(auto, unfolding(crate::specs::TypeExpr::type_expr))]
 #[cycle(type_expr)]
 pub fn type_expr(
     alloc: Global,
@@ -85,6 +96,7 @@ pub fn type_expr(
 ) -> Result<Read<TypeExpr>, ParseFault>
     requires { IsPlace tokens.now at }
     ensures place { Advances tokens.now at result }
+    ensures value { Gives (spec.type_expr tokens.now levels at) result }
 {
     if levels == 0 {
         return Err(refusal(begins_type(kind_at(tokens, at)), at));
@@ -96,6 +108,7 @@ pub fn type_expr(
 }
 
 /// `"array" "[" index {"," index} "]" "of" type`
+#[tactic(auto, unfolding(crate::specs::TypeExpr::array))]
 #[cycle(type_expr)]
 fn array(
     alloc: Global,
@@ -106,6 +119,7 @@ fn array(
     requires place { IsPlace tokens.now at }
     requires inside { at < length tokens.now }
     ensures place { Advances tokens.now at result }
+    ensures value { Gives (spec.array tokens.now (spec.type_expr tokens.now levels) at) result }
 {
     let first = expect_symbol(tokens, at + 1, Symbol::LeftBracket)?;
     let indexes = indexes(alloc, tokens, first)?;

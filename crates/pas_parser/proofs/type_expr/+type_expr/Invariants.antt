@@ -1,4 +1,4 @@
-use Rattle.std.proofs.Common.{◌+◌, ◌-◌, ◌*◌, ◌<◌, ◌≤◌, length}
+use Rattle.std.proofs.Common.{◌+◌, ◌*◌}
 use Rattle.pas_parser.proofs.type_expr.+type_expr.Given as goal
 
 abbrev pub decreases-type_expr : goal.decreases-type_expr
