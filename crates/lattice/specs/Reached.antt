@@ -1,7 +1,7 @@
 -- The least lattice that is no single point, as an example of how the laws are met: whether a place is reached.
-use Rattle.std.specs.Prelude.{◌≡◌, ◌≢◌, ℕ, ◌<◌, ◌≤◌, Bool, true, false, not, ◌&&◌, ◌||◌, if◌then◌else◌, IsTrue, refl}
+use Rattle.std.specs.Prelude.{◌≢◌, ℕ, ◌<◌, ◌≤◌, Bool, true, false, not, ◌&&◌, ◌||◌, IsTrue, refl}
 use Rattle.std.proofs.Common.{lit<, lit≤}
-use Rattle.lattice.specs.Lattice.{Ops, IsLattice, AreWithin}
+use Rattle.lattice.specs.Lattice.{Ops, IsLattice}
 
 -- the rank of an element is one where it can change still
 abbrev rank : Bool → ℕ
