@@ -1,0 +1,38 @@
+-- Looking a name up among files.
+use Rattle.std.proofs.Common.{◌≡◌, ℕ, ◌+◌, ◌<◌, true, List, [], length, take, drop, get_or, Option, Some, Vec, arith, refl, string_bytes}
+use Rattle.std.specs.Prelude.{String}
+use Rattle.std.specs.Str.{bytes_eq}
+use Rattle.std.specs.declared.alloc.Global.{Global}
+use Rattle.std.proofs.lemmas.Grind.{common_steps}
+use Rattle.std.proofs.lemmas.List.{drop_more, drop-drop, get_or-map, take-append-drop}
+use Rattle.px_base.specs.Bytes.{Gives}
+use Rattle.px_base.specs.Memory.{file_named}
+use Rattle.px_base.specs.Named.{named, bytes_of, rest_of}
+
+-- a file that has the name is the first with it from its index on
+pub file_named-drop : (files : List (String Global × Vec ℕ Global)) (i : ℕ) (file : String Global × Vec ℕ Global) (name : List ℕ) →
+    i < length files → file ≡ get_or files i file → bytes_eq (string_bytes file.0) name ≡ true →
+    file_named (named (drop i files)) name ≡ Some (bytes_of files i)
+file_named-drop files i file name below is same =
+    let bytes = get_or-map (λ f. f.1.items) files i file [] below in
+    rw (drop_more files i file below) (grind (arith, common_steps))
+
+-- what is left of the file at an index
+pub rest_of-Some : (files : List (String Global × Vec ℕ Global)) (picked : Option ℕ) (i at : ℕ) (file : String Global × Vec ℕ Global) →
+    picked ≡ Some i → i < length files → file ≡ get_or files i file →
+    rest_of files picked at ≡ drop at file.1.items
+rest_of-Some files picked i at file at_i below is =
+    let bytes = get_or-map (λ f. f.1.items) files i file [] below in
+    rw at_i (grind (arith, common_steps))
+
+-- a read of n bytes from the file at an index
+pub Gives-picked : (files : List (String Global × Vec ℕ Global)) (picked : Option ℕ) (i at n : ℕ) (file : String Global × Vec ℕ Global) (left piece : List ℕ) →
+    picked ≡ Some i → i < length files → file ≡ get_or files i file → left ≡ rest_of files picked at →
+    piece ≡ take n (drop at file.1.items) →
+    Gives (Some left) (Some (rest_of files picked (at + n))) piece
+Gives-picked files picked i at n file left piece at_i below is left_is piece_is bytes told =
+    let before = rest_of-Some files picked i at file at_i below is in
+    let after = rest_of-Some files picked i (at + n) file at_i below is in
+    let parts = take-append-drop n (drop at file.1.items) in
+    let further = drop-drop n at file.1.items in
+    (rest_of files picked (at + n), cc, refl)
