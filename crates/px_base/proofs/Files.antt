@@ -1,11 +1,10 @@
 -- Looking a name up among files.
-use Rattle.std.proofs.Common.{◌≡◌, ℕ, ◌+◌, ◌<◌, true, List, [], length, take, drop, get_or, Option, Some, Vec, arith, refl, string_bytes}
+use Rattle.std.proofs.Common.{◌≡◌, ℕ, ◌+◌, ◌<◌, true, List, [], length, drop, min, get_or, Option, Some, Vec, arith, string_bytes}
 use Rattle.std.specs.Prelude.{String}
 use Rattle.std.specs.Str.{bytes_eq}
 use Rattle.std.specs.declared.alloc.Global.{Global}
 use Rattle.std.proofs.lemmas.Grind.{common_steps}
-use Rattle.std.proofs.lemmas.List.{drop_more, drop-drop, get_or-map, take-append-drop}
-use Rattle.px_base.specs.Bytes.{Gives}
+use Rattle.std.proofs.lemmas.List.{drop_more, drop-drop, drop_min, get_or-map}
 use Rattle.px_base.specs.Memory.{file_named}
 use Rattle.px_base.specs.Named.{named, bytes_of, rest_of}
 
@@ -25,14 +24,13 @@ rest_of-Some files picked i at file at_i below is =
     let bytes = get_or-map (λ f. f.1.items) files i file [] below in
     rw at_i (grind (arith, common_steps))
 
--- a read of n bytes from the file at an index
-pub Gives-picked : (files : List (String Global × Vec ℕ Global)) (picked : Option ℕ) (i at n : ℕ) (file : String Global × Vec ℕ Global) (left piece : List ℕ) →
-    picked ≡ Some i → i < length files → file ≡ get_or files i file → left ≡ rest_of files picked at →
-    piece ≡ take n (drop at file.1.items) →
-    Gives (Some left) (Some (rest_of files picked (at + n))) piece
-Gives-picked files picked i at n file left piece at_i below is left_is piece_is bytes told =
+-- what a read of n bytes leaves of the file at an index
+pub rest_of-read : (files : List (String Global × Vec ℕ Global)) (picked : Option ℕ) (i at n size : ℕ) (file : String Global × Vec ℕ Global) →
+    picked ≡ Some i → i < length files → file ≡ get_or files i file → n ≡ min size (length (drop at file.1.items)) →
+    rest_of files picked (at + n) ≡ drop size (rest_of files picked at)
+rest_of-read files picked i at n size file at_i below is count =
     let before = rest_of-Some files picked i at file at_i below is in
     let after = rest_of-Some files picked i (at + n) file at_i below is in
-    let parts = take-append-drop n (drop at file.1.items) in
     let further = drop-drop n at file.1.items in
-    (rest_of files picked (at + n), cc, refl)
+    let past : drop n (drop at file.1.items) ≡ drop size (drop at file.1.items) = rw count (drop_min size (drop at file.1.items)) in
+    cc

@@ -8,6 +8,8 @@ mod operator;
 mod outside;
 mod place;
 mod reading;
+#[cfg(test)]
+mod tests;
 mod writing;
 
 pub use kind::Kind;

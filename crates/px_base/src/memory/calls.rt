@@ -1,7 +1,6 @@
-ghost use Rattle.std.specs.Prelude.{◌≡◌, ◌==◌, true, is_err};
+ghost use Rattle.std.specs.Prelude.{◌≡◌, ◌==◌, is_err};
 ghost use Rattle.std.specs.List.{list_any};
-ghost use Rattle.px_base.specs.Faults.{HasCause};
-ghost use Rattle.px_base.specs.Memory.{Calls, one_more, is_failing, counted};
+ghost use Rattle.px_base.specs.Memory.{no_calls, one_more, is_failing, after_call};
 
 use crate::Failed;
 use std::marker::Model;
@@ -30,7 +29,7 @@ fn is_listed(numbers: &[u32], number: u64) -> bool
 
 impl CallCount {
     pub fn new(failing: Vec<u32>) -> Self
-        ensures { result ≡ record { failing = failing.items; made = 0; faults = 0 } }
+        ensures { result ≡ no_calls failing.items }
     {
         CallCount {
             failing,
@@ -42,8 +41,7 @@ impl CallCount {
     /// Counts a call, and its fault if it is one of those that fail.
     pub fn begin(&mut self) -> Result<(), Failed>
         ensures failing { is_err result ≡ is_failing self.old }
-        ensures counted { self.new ≡ counted self.old (is_failing self.old) }
-        ensures cause { HasCause self.old.faults self.new.faults (is_err result) }
+        ensures counted { self.new ≡ after_call self.old (is_failing self.old) }
     {
         let number = self.made.saturating_add(1);
         self.made = number;
@@ -55,8 +53,7 @@ impl CallCount {
 
     /// Counts a fault of the call that has begun.
     pub fn fault(&mut self) -> Failed
-        ensures counted { self.new ≡ record self.old { faults = one_more self.old.faults } }
-        ensures cause { HasCause self.old.faults self.new.faults true }
+        ensures { self.new ≡ record self.old { faults = one_more self.old.faults } }
     {
         self.faults = self.faults.saturating_add(1);
         Failed

@@ -1,5 +1,5 @@
-ghost use Rattle.std.specs.Prelude.{◌≡◌, ◌<◌, Some, None, ⊤, length, IfSome, IfNone};
-ghost use Rattle.px_base.specs.Memory.{file_named};
+ghost use Rattle.std.specs.Prelude.{◌≡◌, ◌<◌, [], Some, None, ⊤, length, take, min, is_err, IfOk, IfSome, IfNone};
+ghost use Rattle.px_base.specs.Memory.{no_calls, is_failing, file_named, pick_fails, shelf_picked, shelf_after};
 ghost use Rattle.px_base.specs.Named.{named, bytes_of};
 
 use super::calls::CallCount;
@@ -17,10 +17,10 @@ pub struct MemShelf {
 }
 
 impl Model for MemShelf {
-    ghost use Rattle.px_base.specs.Memory.{Files};
+    ghost use Rattle.px_base.specs.Memory.{ShelfState};
     ghost use Rattle.px_base.specs.Named.{named, rest_of, IsInRange};
 
-    ghost Value = { Files };
+    ghost Value = { ShelfState };
 
     ghost view = { λ s. record { files = named s.files.items; left = rest_of s.files.items s.picked s.at; calls = s.calls } };
 
@@ -30,7 +30,9 @@ impl Model for MemShelf {
 impl MemShelf {
     /// A shelf of these files; of two with one name the first counts. `failing` lists the numbers of the calls that
     /// fail, counted from 1; `pick` counts as a call.
-    pub fn new(files: Vec<(String, Vec<u8>)>, failing: Vec<u32>) -> Self {
+    pub fn new(files: Vec<(String, Vec<u8>)>, failing: Vec<u32>) -> Self
+        ensures { result ≡ record { files = named files.items; left = []; calls = no_calls failing.items } }
+    {
         MemShelf {
             files,
             picked: None,
@@ -62,7 +64,10 @@ impl Shelf for MemShelf {
 
     ghost left = { λ s. Some s.left };
 
-    fn pick(&mut self, name: &str) -> Result<(), Failed> {
+    fn pick(&mut self, name: &str) -> Result<(), Failed>
+        ensures fails { is_err result ≡ pick_fails self.old name.now }
+        ensures after { self.new ≡ shelf_picked self.old name.now }
+    {
         self.picked = None;
         self.calls.begin()?;
         self.picked = position_of(&self.files, name);
@@ -73,7 +78,12 @@ impl Shelf for MemShelf {
         Ok(())
     }
 
-    fn read(&mut self, buf: &mut [u8]) -> Result<usize, Failed> {
+    fn read(&mut self, buf: &mut [u8]) -> Result<usize, Failed>
+        ensures fails { is_err result ≡ is_failing self.old.calls }
+        ensures count { IfOk result (λ n. n ≡ min (length self.old.left) (length buf.old)) }
+        ensures bytes { IfOk result (λ n. take n buf.new ≡ take n self.old.left) }
+        ensures after { self.new ≡ shelf_after self.old (length buf.old) }
+    {
         self.calls.begin()?;
         let Some(file) = self.picked else {
             return Ok(0);

@@ -1,4 +1,5 @@
 ghost use Rattle.std.specs.Prelude.{◌≡◌, ◌+◌, ◌-◌, ◌<◌, ◌≤◌, ◌++◌, [], Some, length, take, min, is_err, IfOk, OnErr};
+ghost use Rattle.px_base.specs.Memory.{no_calls, taken_of, write_fails, sink_after};
 
 use super::calls::CallCount;
 use crate::{Failed, Sink};
@@ -17,9 +18,9 @@ pub struct MemSink {
 
 impl Model for MemSink {
     ghost use Rattle.std.specs.Prelude.{vec_len, vec_capacity};
-    ghost use Rattle.px_base.specs.Memory.{Room, IsRoomy};
+    ghost use Rattle.px_base.specs.Memory.{SinkState, IsRoomy};
 
-    ghost Value = { Room };
+    ghost Value = { SinkState };
 
     ghost view = { λ s. record { taken = s.bytes.items; room = s.room; most = s.most; calls = s.calls } };
 
@@ -36,7 +37,7 @@ impl MemSink {
         failing: Vec<u32>,
     ) -> Result<MemSink, AllocError>
         requires { 1 ≤ most }
-        ensures { IfOk result (λ s. s ≡ record { taken = []; room = room; most = most; calls = record { failing = failing.items; made = 0; faults = 0 } }) }
+        ensures { IfOk result (λ s. s ≡ record { taken = []; room = room; most = most; calls = no_calls failing.items }) }
     {
         Ok(MemSink {
             bytes: Vec::with_capacity(alloc, room)?,
@@ -59,7 +60,11 @@ impl Sink for MemSink {
 
     ghost taken = { λ s. Some s.taken };
 
-    fn write(&mut self, bytes: &[u8]) -> Result<usize, Failed> {
+    fn write(&mut self, bytes: &[u8]) -> Result<usize, Failed>
+        ensures fails { is_err result ≡ write_fails self.old bytes.now }
+        ensures count { IfOk result (λ n. n ≡ taken_of self.old bytes.now) }
+        ensures after { self.new ≡ sink_after self.old bytes.now }
+    {
         self.calls.begin()?;
         let count = bytes.len().min(self.most).min(self.room - self.bytes.len());
         if count == 0 && !bytes.is_empty() {

@@ -1,5 +1,5 @@
 ghost use Rattle.std.specs.Prelude.{◌≡◌, ◌≤◌, ℕ, List, [], Some, length, take, drop, min, is_err, IfOk, if◌then◌else◌};
-ghost use Rattle.px_base.specs.Memory.{is_failing, counted};
+ghost use Rattle.px_base.specs.Memory.{no_calls, is_failing, source_after};
 
 use super::calls::CallCount;
 use super::unread::Unread;
@@ -14,9 +14,9 @@ pub struct MemSource {
 }
 
 impl Model for MemSource {
-    ghost use Rattle.px_base.specs.Memory.{Stream};
+    ghost use Rattle.px_base.specs.Memory.{SourceState};
 
-    ghost Value = { Stream };
+    ghost Value = { SourceState };
 
     ghost view = { λ s. record { left = s.unread.left; calls = s.calls } };
 }
@@ -24,8 +24,7 @@ impl Model for MemSource {
 impl MemSource {
     /// A source of these bytes. `failing` lists the numbers of the calls that fail, counted from 1.
     pub fn new(bytes: Vec<u8>, failing: Vec<u32>) -> Self
-        ensures left { result.left ≡ bytes.items }
-        ensures calls { result.calls ≡ record { failing = failing.items; made = 0; faults = 0 } }
+        ensures { result ≡ record { left = bytes.items; calls = no_calls failing.items } }
     {
         MemSource {
             unread: Unread::new(bytes),
@@ -39,7 +38,12 @@ impl Source for MemSource {
 
     ghost left = { λ s. Some s.left };
 
-    fn read(&mut self, buf: &mut [u8]) -> Result<usize, Failed> {
+    fn read(&mut self, buf: &mut [u8]) -> Result<usize, Failed>
+        ensures fails { is_err result ≡ is_failing self.old.calls }
+        ensures count { IfOk result (λ n. n ≡ min (length self.old.left) (length buf.old)) }
+        ensures bytes { IfOk result (λ n. take n buf.new ≡ take n self.old.left) }
+        ensures after { self.new ≡ source_after self.old (length buf.old) }
+    {
         self.calls.begin()?;
         Ok(self.unread.read(buf))
     }

@@ -1,4 +1,4 @@
-ghost use Rattle.std.specs.Prelude.{◌≡◌, [], Some, None, ⊤};
+ghost use Rattle.std.specs.Prelude.{◌≡◌, [], Some, None, Ok, ⊤, length, take, drop, min, IsOk, IfOk};
 
 use super::unread::Unread;
 use crate::{Failed, Shelf, Sink, Source};
@@ -38,12 +38,19 @@ impl Shelf for SureShelf {
 
     ghost left = { λ s. Some s.left };
 
-    fn pick(&mut self, _name: &str) -> Result<(), Failed> {
+    fn pick(&mut self, _name: &str) -> Result<(), Failed>
+        ensures never_fails { IsOk result }
+        ensures after { self.new ≡ record self.old { left = self.old.bytes } }
+    {
         self.unread.rewind();
         Ok(())
     }
 
-    fn read(&mut self, buf: &mut [u8]) -> Result<usize, Failed> {
+    fn read(&mut self, buf: &mut [u8]) -> Result<usize, Failed>
+        ensures count { result ≡ Ok (min (length self.old.left) (length buf.old)) }
+        ensures bytes { IfOk result (λ n. take n buf.new ≡ take n self.old.left) }
+        ensures after { self.new ≡ record self.old { left = drop (length buf.old) self.old.left } }
+    {
         Ok(self.unread.read(buf))
     }
 }
@@ -78,7 +85,11 @@ impl Source for SureSource {
 
     ghost left = { λ s. Some s };
 
-    fn read(&mut self, buf: &mut [u8]) -> Result<usize, Failed> {
+    fn read(&mut self, buf: &mut [u8]) -> Result<usize, Failed>
+        ensures count { result ≡ Ok (min (length self.old) (length buf.old)) }
+        ensures bytes { IfOk result (λ n. take n buf.new ≡ take n self.old) }
+        ensures after { self.new ≡ drop (length buf.old) self.old }
+    {
         Ok(self.unread.read(buf))
     }
 }
@@ -98,7 +109,9 @@ impl Sink for SureSink {
 
     ghost taken = { λ _. None };
 
-    fn write(&mut self, bytes: &[u8]) -> Result<usize, Failed> {
+    fn write(&mut self, bytes: &[u8]) -> Result<usize, Failed>
+        ensures { result ≡ Ok (length bytes.now) }
+    {
         Ok(bytes.len())
     }
 }
