@@ -10,6 +10,7 @@ mod program;
 mod routine;
 mod statement;
 mod type_def;
+mod types;
 mod variable;
 
 pub use expr::{Access, Actual, Expr, ExprForm};
