@@ -1,0 +1,8 @@
+use Rattle.std.proofs.Common.{◌-◌, ◌<◌, ◌≤◌, length}
+use Rattle.pas_parser.proofs.constant.labels.Given as goal
+
+abbrev pub invariant-loop-list : goal.invariant-loop-list
+invariant-loop-list l = (l.fn.at < l.list.next) × (l.list.next ≤ length l.tokens)
+
+abbrev pub decreases-loop-list : goal.decreases-loop-list
+decreases-loop-list l = length l.tokens - l.list.next

@@ -1,0 +1,5 @@
+pub mod Look
+pub mod Operator
+pub mod Outcome
+pub mod Program
+pub mod Reading

@@ -1,0 +1,52 @@
+//! Programs (ISO 7185, 6.10).
+
+ghost use Rattle.std.specs.Prelude.{◌≡◌, ◌≤◌, length};
+ghost use Rattle.pas_parser.specs.Program as spec;
+ghost use Rattle.pas_parser.specs.Outcome.{IsPlace};
+ghost use Rattle.pas_parser.specs.Reading.{Advances, Stays};
+
+use crate::block::block;
+use crate::constant::idents;
+use crate::fault::ParseFault;
+use crate::look::{expect_ident, expect_symbol, expect_word, is_symbol, kind_at, span_at};
+use pas_lexer::{Symbol, Token, Word};
+use pas_tree::Tree;
+use std::alloc::Global;
+
+/// The greatest depth of a measured construct.
+const MAX_DEPTH: u32 = 200;
+
+/// `["(" idents ")"]`, whose names declare nothing: the place after it.
+fn parameters(alloc: Global, tokens: &[Token], at: u32) -> Result<u32, ParseFault>
+    requires { IsPlace tokens.now at }
+    ensures place { spec.StaysAt tokens.now at result }
+{
+    if !is_symbol(tokens, at, Symbol::LeftParen) {
+        return Ok(at);
+    }
+    let found = idents(alloc, tokens, at + 1)?;
+    expect_symbol(tokens, found.next, Symbol::RightParen)
+}
+
+/// The tree of a program, or the first fault of its tokens.
+///
+/// # Errors
+///
+/// Of the two faults the one at the earlier token counts, and at one token `NoRule`.
+pub fn parse(alloc: Global, tokens: &[Token]) -> Result<Tree, ParseFault>
+    requires { length tokens.now ≤ 1048576 }
+    ensures within { spec.Faults tokens.now result }
+{
+    let name = expect_word(tokens, 0, Word::WProgram)?;
+    let semicolon = parameters(alloc, tokens, expect_ident(tokens, name)?)?;
+    let first = expect_symbol(tokens, semicolon, Symbol::Semicolon)?;
+    let block = block(alloc, tokens, MAX_DEPTH, first)?;
+    let end = expect_symbol(tokens, block.next, Symbol::Dot)?;
+    if kind_at(tokens, end).is_some() {
+        return Err(ParseFault::NoRule { token: end });
+    }
+    Ok(Tree {
+        name: span_at(tokens, name),
+        block: block.tree,
+    })
+}
