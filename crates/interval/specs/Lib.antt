@@ -1,0 +1,6 @@
+pub mod Answers
+pub mod Bounds
+pub mod Ends
+pub mod Forward
+pub mod Intervals
+pub mod Same
