@@ -1,3 +1,4 @@
+pub mod Checked
 pub mod Each
 pub mod Labels
 pub mod Scopes

@@ -7,6 +7,7 @@
 
 mod expr;
 mod program;
+mod readers;
 mod routine;
 mod statement;
 mod type_def;

@@ -6,14 +6,6 @@ use crate::type_def::TypeDef;
 
 /// The rules of types (ISO 7185, 6.4.5 to 6.4.7).
 impl Program {
-    /// What the type `t` is.
-    pub fn type_def(&self, t: u32) -> TypeDef
-        requires { t < length self.now.types }
-        ensures { slice_get self.now.types t ≡ Some result }
-    {
-        self.types.as_slice()[t as usize]
-    }
-
     /// Whether both are one type. Two that are written alike are not.
     pub fn same_type(&self, a: u32, b: u32) -> bool
         requires a_in_range { a < length self.now.types }

@@ -8,5 +8,5 @@ overflow_add-result c =
     let lo : SFits w32 c.in-Scalar.lo = search rules in
     let hi : SFits w32 c.in-Scalar.hi = search rules in
     let e = simp to_z-of_z at c.abs_diff.ensures in
-    let few = values_few _ _ _ (scalar_fits c.args.self.now.types c.args.t c.in-Scalar.boolean c.in-Scalar.lo c.in-Scalar.hi c.args.self.now.types_fit c.in-Scalar.ensures) in
+    let few = values_few _ _ _ (scalar_fits c.args.self.now.types c.args.t c.in-Scalar.boolean c.in-Scalar.lo c.in-Scalar.hi c.args.self.now.types_fit c.in-Scalar.ensures.value) in
     omega (arith, e, few)
