@@ -2,5 +2,8 @@ pub mod Answers
 pub mod Bounds
 pub mod Ends
 pub mod Forward
+pub mod IntervalLaws
 pub mod Intervals
 pub mod Same
+pub mod ValueLaws
+pub mod Values

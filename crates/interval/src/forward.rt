@@ -79,7 +79,7 @@ pub fn clip(x: Itv, range: Itv) -> Answer
 fn nothing() -> Answer
     ensures { result ≡ always empty }
 {
-    Answer::always(Itv::EMPTY)
+    Answer::always(Itv::none())
 }
 
 fn sum(x: Itv, y: Itv) -> Answer

@@ -18,7 +18,7 @@ pub struct Itv {
 }
 
 impl Itv {
-    ghost use Rattle.interval.specs.Intervals.{is_empty, is_in, interval, meet, join, hull, is_within};
+    ghost use Rattle.interval.specs.Intervals.{empty, is_empty, is_in, interval, meet, join, hull, is_within};
 
     /// No number.
     pub const EMPTY: Itv = Itv { lo: 1, hi: 0 };
@@ -31,6 +31,13 @@ impl Itv {
 
     /// The numbers of the Booleans.
     pub const BOOLEANS: Itv = Itv { lo: 0, hi: 1 };
+
+    /// The interval without numbers, as contracts know it.
+    pub(crate) fn none() -> Itv
+        ensures { result ≡ empty }
+    {
+        Itv::EMPTY
+    }
 
     /// The numbers of the language from `lo` to `hi`.
     pub fn between(lo: i64, hi: i64) -> Itv

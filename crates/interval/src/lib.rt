@@ -5,7 +5,10 @@ mod answer;
 mod ends;
 mod forward;
 mod itv;
+mod val;
+mod val_lattice;
 
 pub use answer::Answer;
 pub use forward::{binary, clip, unary};
 pub use itv::Itv;
+pub use val::Val;
