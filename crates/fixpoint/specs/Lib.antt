@@ -1,0 +1,4 @@
+pub mod Ascent
+pub mod Descent
+pub mod Progress
+pub mod System

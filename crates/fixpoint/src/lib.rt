@@ -1,0 +1,9 @@
+//! Solves a system of equations over a lattice inside limits, after Bourdoncle (FMPA 1993): an ascending iteration with
+//! widening at the heads of a weak topological order, and a descending one with narrowing.
+#![tactic(auto)]
+
+mod ascent;
+mod equations;
+
+pub use ascent::ascend;
+pub use equations::Equations;
