@@ -20,3 +20,6 @@ pub use routine::{Assert, Routine};
 pub use statement::{Arm, Body, Statement, WriteItem, WriteValue};
 pub use type_def::TypeDef;
 pub use variable::{VarDef, VarKind};
+
+#[cfg(test)]
+mod tests;
