@@ -1,2 +1,2 @@
-mod Files
-mod Pieces
+pub mod Files
+pub mod Pieces

@@ -1,6 +1,6 @@
 -- What the calls of a shelf, a source and a sink do to bytes. What there is may be told or not: `None` tells nothing,
 -- and where nothing is told these facts say nothing.
-use Rattle.std.specs.Prelude.{ℕ, ◌≤◌, ◌≡◌, List, [], ◌++◌, length, take, Option, Some}
+use Rattle.std.specs.Prelude.{ℕ, ◌≤◌, ◌≡◌, ◌≢◌, List, [], ◌++◌, length, take, Option, Some, None}
 use Rattle.std.specs.Option.{ForSome}
 
 -- The bytes that were left are the piece and a rest, and this rest is left.
@@ -24,7 +24,7 @@ Keeps old new = ForSome old (λ bytes. new ≡ Some bytes)
 abbrev pub AddsPrefix : Option (List ℕ) → Option (List ℕ) → List ℕ → Type 0
 AddsPrefix old new piece = (n : ℕ) × (n ≤ length piece) × Adds old new (take n piece)
 
--- There is a file, and its bytes are left.
-abbrev pub Opens : Option (Option (List ℕ)) → Option (List ℕ) → Type 0
-Opens file left =
-    ForSome file (λ told. (bytes : List ℕ) × (told ≡ Some bytes) × (left ≡ Some bytes))
+-- What is told of the file under a name: there is one, and this holds of its bytes.
+pub record ForFile (file : Option (Option (List ℕ))) (P : List ℕ → Type 0) : Type 0 where
+  pub there : file ≢ Some None
+  pub bytes : (bytes : List ℕ) → file ≡ Some (Some bytes) → P bytes

@@ -1,7 +1,7 @@
 //! What a program has around it: files that it asks for by name, bytes that are given to it and sinks that take bytes.
 //! Each counts its faults, so that a caller can tell an answer that the outside caused from one that was made up.
-ghost use Rattle.std.specs.Prelude.{◌≡◌, ◌<◌, ◌≤◌, ◌↔◌, ℕ, List, Option, length, take, is_err, IfOk, OnOk, OnErr};
-ghost use Rattle.px_base.specs.Bytes.{Gives, IsAtEnd, Adds, Keeps, Opens};
+ghost use Rattle.std.specs.Prelude.{◌≡◌, ◌<◌, ◌≤◌, ◌↔◌, ℕ, List, Option, Some, length, take, is_err, IfOk, OnOk, OnErr};
+ghost use Rattle.px_base.specs.Bytes.{Gives, IsAtEnd, Adds, Keeps, ForFile};
 ghost use Rattle.px_base.specs.Faults.{HasCause};
 
 /// A fault of the outside.
@@ -25,7 +25,7 @@ pub trait Shelf {
     /// Opens the file under a name, which `read` then reads from its start.
     fn pick(&mut self, name: &str) -> Result<(), Failed>
         requires { may_ask self.old name.now }
-        ensures opened { OnOk result (Opens (file self.old name.now) (left self.new)) }
+        ensures opened { OnOk result (ForFile (file self.old name.now) (λ bytes. left self.new ≡ Some bytes)) }
         ensures names { (n : List ℕ) → may_ask self.new n ↔ may_ask self.old n }
         ensures files { (n : List ℕ) → file self.new n ≡ file self.old n }
         ensures cause { HasCause (faults self.old) (faults self.new) (is_err result) };

@@ -1,6 +1,7 @@
 //! Reading whole files and all that a source gives.
-ghost use Rattle.std.specs.Prelude.{◌≡◌, ◌↔◌, ◌+◌, ◌<◌, ◌≤◌, ◌++◌, ℕ, List, [], false, Some, length, IsErrOf, IsSomeAnd, IfOk, OnOk};
+ghost use Rattle.std.specs.Prelude.{◌≡◌, ◌↔◌, ◌+◌, ◌<◌, ◌≤◌, ◌++◌, ℕ, List, [], false, Some, length, IsErrOf, IfOk, OnOk};
 ghost use Rattle.std.specs.Option.{ForSome};
+ghost use Rattle.px_base.specs.Bytes.{ForFile};
 ghost use Rattle.px_base.specs.Faults.{HasCause};
 ghost use Rattle.px_base.specs.Reading.{is_fault};
 
@@ -26,11 +27,11 @@ pub fn read_file<P: Shelf>(
     limit: u32,
 ) -> Result<Vec<u8>, ReadEnd>
     requires { P.may_ask shelf.old name.now }
-    ensures bytes { IfOk result (λ v. ForSome (P.file shelf.old name.now) (λ file. file ≡ Some v.items)) }
-    ensures at_end { OnOk result (ForSome (P.file shelf.old name.now) (λ _. P.left shelf.new ≡ Some [])) }
+    ensures bytes { IfOk result (λ v. ForFile (P.file shelf.old name.now) (λ bytes. v.items ≡ bytes)) }
+    ensures at_end { OnOk result (ForFile (P.file shelf.old name.now) (λ _. P.left shelf.new ≡ Some [])) }
     ensures within { IfOk result (λ v. length v.items ≤ limit) }
     ensures too_large { IsErrOf result ReadEnd.TooLarge
-        → ForSome (P.file shelf.old name.now) (λ file. IsSomeAnd file (λ bytes. limit < length bytes)) }
+        → ForFile (P.file shelf.old name.now) (λ bytes. limit < length bytes) }
     ensures names { (n : List ℕ) → P.may_ask shelf.new n ↔ P.may_ask shelf.old n }
     ensures files { (n : List ℕ) → P.file shelf.new n ≡ P.file shelf.old n }
     ensures cause { HasCause (P.faults shelf.old) (P.faults shelf.new) (is_fault result) }
@@ -60,7 +61,7 @@ fn read_rest<P: Shelf>(alloc: Global, shelf: &mut P, limit: u32) -> Result<Vec<u
         if count == 0 {
             return Ok(bytes);
         }
-        keep(&mut bytes, &piece[..count], limit)?;
+        append_within(&mut bytes, &piece[..count], limit)?;
     }
 }
 
@@ -81,7 +82,7 @@ pub fn read_all<S: Source>(alloc: Global, source: &mut S, limit: u32) -> Result<
         if count == 0 {
             return Ok(bytes);
         }
-        keep(&mut bytes, &piece[..count], limit)?;
+        append_within(&mut bytes, &piece[..count], limit)?;
     }
 }
 
@@ -89,9 +90,9 @@ pub fn read_all<S: Source>(alloc: Global, source: &mut S, limit: u32) -> Result<
 const PIECE: usize = 8192;
 
 /// Adds a piece that was read to the bytes before it, unless they become more than the limit.
-fn keep(bytes: &mut Vec<u8>, piece: &[u8], limit: u32) -> Result<(), ReadEnd>
+fn append_within(bytes: &mut Vec<u8>, piece: &[u8], limit: u32) -> Result<(), ReadEnd>
     requires { length bytes.old.items ≤ limit }
-    ensures kept { OnOk result (bytes.new.items ≡ bytes.old.items ++ piece.now) }
+    ensures appended { OnOk result (bytes.new.items ≡ bytes.old.items ++ piece.now) }
     ensures within { OnOk result (length bytes.new.items ≤ limit) }
     ensures too_large { IsErrOf result ReadEnd.TooLarge → limit < length bytes.old.items + length piece.now }
     ensures not_failed { is_fault result ≡ false }

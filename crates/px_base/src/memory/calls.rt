@@ -6,7 +6,7 @@ use crate::Failed;
 use std::marker::Model;
 
 /// Which calls of an object fail, and how many calls and faults there were.
-#[derive(Drop)]
+#[derive(Debug, Drop)]
 pub struct CallCount {
     failing: Vec<u32>,
     made: u64,

@@ -8,7 +8,7 @@ use crate::{Failed, Shelf};
 use std::marker::Model;
 
 /// Files in memory, with faults at the calls that are named.
-#[derive(Drop)]
+#[derive(Debug, Drop)]
 pub struct MemShelf {
     files: Vec<(String, Vec<u8>)>,
     picked: Option<usize>,
@@ -43,6 +43,7 @@ impl MemShelf {
 }
 
 /// The index of the first file with this name.
+#[tactic(auto, using(crate::proofs::Files::file_named_from))]
 fn position_of(files: &[(String, Vec<u8>)], name: &str) -> Option<usize>
     ensures found { IfSome result (λ i. (i < length files.now) × (file_named (named files.now) name.now ≡ Some (bytes_of files.now i))) }
     ensures missing { IfNone result (file_named (named files.now) name.now ≡ None) }

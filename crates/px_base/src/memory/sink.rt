@@ -8,7 +8,7 @@ use std::marker::Model;
 
 /// A sink that keeps what it takes: so many bytes in all, at most so many in one call, with faults at the calls that
 /// are named.
-#[derive(Drop)]
+#[derive(Debug, Drop)]
 pub struct MemSink {
     bytes: Vec<u8>,
     room: usize,

@@ -7,7 +7,7 @@ use crate::{Failed, Source};
 use std::marker::Model;
 
 /// Bytes in memory, given piece by piece, with faults at the calls that are named.
-#[derive(Drop)]
+#[derive(Debug, Drop)]
 pub struct MemSource {
     unread: Unread,
     calls: CallCount,

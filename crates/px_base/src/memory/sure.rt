@@ -5,7 +5,7 @@ use crate::{Failed, Shelf, Sink, Source};
 use std::marker::Model;
 
 /// A shelf that has the same bytes under every name and never fails.
-#[derive(Drop)]
+#[derive(Debug, Drop)]
 pub struct SureShelf {
     unread: Unread,
 }
@@ -56,7 +56,7 @@ impl Shelf for SureShelf {
 }
 
 /// A source that never fails.
-#[derive(Drop)]
+#[derive(Debug, Drop)]
 pub struct SureSource {
     unread: Unread,
 }
@@ -95,7 +95,7 @@ impl Source for SureSource {
 }
 
 /// A sink that takes the whole of every piece, keeps none of it and never fails.
-#[derive(Clone, Copy, Debug)]
+#[derive(Clone, Copy, Debug, Default)]
 pub struct SureSink;
 
 impl SureSink {

@@ -3,7 +3,7 @@ ghost use Rattle.std.specs.Prelude.{◌≡◌, [], length, take, drop, min};
 use std::marker::Model;
 
 /// Bytes, of which those from a place on are still to be read.
-#[derive(Drop)]
+#[derive(Debug, Drop)]
 pub struct Unread {
     bytes: Vec<u8>,
     at: usize,
