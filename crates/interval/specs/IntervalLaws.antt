@@ -51,6 +51,10 @@ either_empty x y z h a b = grind (arith, ints)
 pub empty_has_none : (x : Itv) (z : ℤ) → IsTrue (is_empty x) → ¬ IsIn x z
 empty_has_none x z h i = grind (arith, ints)
 
+-- an interval that has a number isn't empty
+pub some_number : (x : Itv) (z : ℤ) → IsIn x z → is_empty x ≡ false
+some_number x z i = grind (arith, ints)
+
 pub within_bounds : (x y : Itv) → is_empty x ≡ false → IsTrue (is_within x y) → (y.lo ≤ℤ x.lo) × (x.hi ≤ℤ y.hi)
 within_bounds x y e h = grind (arith, ints)
 

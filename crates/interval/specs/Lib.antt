@@ -5,5 +5,6 @@ pub mod Forward
 pub mod IntervalLaws
 pub mod Intervals
 pub mod Same
+pub mod Soundness
 pub mod ValueLaws
 pub mod Values

@@ -5,6 +5,7 @@ mod answer;
 mod ends;
 mod forward;
 mod itv;
+mod tables;
 mod val;
 mod val_lattice;
 

@@ -1,31 +1,14 @@
-use Rattle.std.proofs.Common.{refl}
-use Rattle.interval.specs.Intervals.{number_by_test, canonical_in_order}
+use Rattle.std.proofs.Common.{sym, subst, IsTrue}
+use Rattle.interval.specs.declared.answer.Answer.{Answer}
+use Rattle.interval.specs.Soundness.{HasUnaryResults}
+use Rattle.interval.proofs.SoundUnary.{unary_has, unary_holds}
 use Rattle.interval.proofs.forward.unary.Goals as goal
 
-pub invariant_of-successor : goal.invariant_of-successor
-invariant_of-successor c = record {
-  lo_in_range = number_by_test _ refl;
-  hi_in_range = number_by_test _ refl;
-  canonical = canonical_in_order _ _ refl;
-}
+pub returns-clause-sound : goal.returns-clause-sound
+returns-clause-sound c =
+    subst (λ (r : Answer). HasUnaryResults c.args.op c.args.x r.value) (sym c.unary_answer.ensures)
+    (unary_has c.args.op c.args.x)
 
-pub invariant_of-predecessor : goal.invariant_of-predecessor
-invariant_of-predecessor c = record {
-  lo_in_range = number_by_test _ refl;
-  hi_in_range = number_by_test _ refl;
-  canonical = canonical_in_order _ _ refl;
-}
-
-pub invariant_of-successor-in-SuccBool : goal.invariant_of-successor-in-SuccBool
-invariant_of-successor-in-SuccBool c = record {
-  lo_in_range = number_by_test _ refl;
-  hi_in_range = number_by_test _ refl;
-  canonical = canonical_in_order _ _ refl;
-}
-
-pub invariant_of-predecessor-in-PredBool : goal.invariant_of-predecessor-in-PredBool
-invariant_of-predecessor-in-PredBool c = record {
-  lo_in_range = number_by_test _ refl;
-  hi_in_range = number_by_test _ refl;
-  canonical = canonical_in_order _ _ refl;
-}
+pub returns-clause-safe : goal.returns-clause-safe
+returns-clause-safe c h =
+    unary_holds c.args.op c.args.x (subst (λ (r : Answer). IsTrue r.holds) c.unary_answer.ensures h)

@@ -1,7 +1,7 @@
 use Rattle.std.proofs.Common.{refl, ap, subst, sym, ◌∙◌, pos, ◌≤ℤ◌}
 use Rattle.interval.specs.Intervals.{number_by_test, canonical_in_order, is_in}
 use Rattle.interval.proofs.Signs.{above_zero-nonzero, above_zero-least}
-use Rattle.interval.proofs.forward.above_zero.Goals as goal
+use Rattle.interval.proofs.tables.above_zero.Goals as goal
 
 pub invariant_of-meet : goal.invariant_of-meet
 invariant_of-meet c = record {

@@ -1,7 +1,7 @@
 use Rattle.std.proofs.Common.{refl, ap, ◌∙◌, pos}
 use Rattle.interval.specs.Intervals.{number_by_test, canonical_in_order, is_in}
 use Rattle.interval.proofs.Signs.{below_zero-nonzero}
-use Rattle.interval.proofs.forward.below_zero.Goals as goal
+use Rattle.interval.proofs.tables.below_zero.Goals as goal
 
 pub invariant_of-meet : goal.invariant_of-meet
 invariant_of-meet c = record {

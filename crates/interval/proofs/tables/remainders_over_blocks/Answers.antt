@@ -5,7 +5,7 @@ use Rattle.interval.specs.declared.itv.Itv.{Itv}
 use Rattle.interval.specs.Intervals.{interval}
 use Rattle.interval.specs.Forward.{remainders_over_blocks}
 use Rattle.interval.proofs.Equal.{equal_intervals}
-use Rattle.interval.proofs.forward.remainders_over_blocks.Goals as goal
+use Rattle.interval.proofs.tables.remainders_over_blocks.Goals as goal
 
 from_below_zero : (x y : Itv) → x.lo <ℤ pos 0 → interval (pos 0) (y.hi -ℤ pos 1) ≡ remainders_over_blocks x y
 from_below_zero x y below = grind (arith, ints)
