@@ -1,4 +1,5 @@
 pub mod Ascent
 pub mod Descent
+pub mod Passing
 pub mod Progress
 pub mod System

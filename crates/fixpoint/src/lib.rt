@@ -3,7 +3,9 @@
 #![tactic(auto)]
 
 mod ascent;
+mod descent;
 mod equations;
 
 pub use ascent::ascend;
+pub use descent::descend;
 pub use equations::Equations;
