@@ -7,3 +7,4 @@ pub mod Solved
 pub mod Steps
 pub mod Tables
 pub mod Turning
+pub mod OneOutcome

@@ -12,23 +12,13 @@ use Rattle.weak_order.specs.Order.Elements.{none, node, component}
 use Rattle.fixpoint.specs.Ascent.{AreAtMost}
 use Rattle.fixpoint.specs.Descent.{lowered, narrowed, pass, heads_of, IsDescent}
 use Rattle.fixpoint.specs.Descent.IsDescent.{last, next}
+use Rattle.fixpoint.specs.Members.{contains_cases, contains_first, contains_later}
 use Rattle.fixpoint.specs.Passing.{stepped, passed, ChangesHead, KeepsHead, slack, IsPassing}
 use Rattle.fixpoint.specs.Progress.{node_at, end_at, LiesAt, IsGiven}
 use Rattle.fixpoint.specs.System.{System, element, IsTable, IsSystem, IsLayoutOf}
 use Rattle.fixpoint.proofs.Handling.{in_range}
 use Rattle.fixpoint.proofs.Layouts.{lies_all, spread_along}
 use Rattle.fixpoint.proofs.Steps.{slack_at_false, slack_at_true, stepped_elsewhere, stepped_fits}
-
--- what a longer list contains
-contains_first : (x : ℕ) (xs : List ℕ) → Contains (x ∷ xs) x
-contains_first x xs = (0, omega arith, refl)
-
-contains_later : (y x : ℕ) (xs : List ℕ) → Contains xs x → Contains (y ∷ xs) x
-contains_later y x xs at = (suc at.0, omega (arith, at.1), at.2)
-
-contains_cases : (y x : ℕ) (xs : List ℕ) (k : ℕ) → k < length (y ∷ xs) → slice_index_or (y ∷ xs) k x ≡ x → (y ≡ x) ⊎ Contains xs x
-contains_cases y x xs zero inside is = inl is
-contains_cases y x xs (suc k) inside is = inr (k, omega (arith, inside), is)
 
 -- the heads of elements are the nodes at the places where components begin
 lies_up : (layout : Layout) (xs : Elements) (p q : ℕ) → LiesAt layout xs p q → p ≤ q
