@@ -1,14 +1,12 @@
 -- One step of an ascent after another: a node, an element after those before it, and a turn of a component.
-use Rattle.std.proofs.Common.{◌≡◌, ℕ, suc, ◌+◌, ◌<◌, ◌≤◌, List, length, refl, sym, ap, subst, ◌∙◌, set, inl, inr, arith, Bool, true, false}
-use Rattle.std.specs.Prelude.{IsTrue, IsFalse, ◌≢◌, ◌⊎◌, max, ◌&&◌}
-use Rattle.std.specs.List.{Contains}
-use Rattle.std.proofs.lemmas.Bool.{cases_eq, cases_lt, and_parts}
-use Rattle.lattice.specs.Lattice.{Ops, IsLattice, AreWithin}
-use Rattle.weak_order.specs.Order.{Elements, Layout, IsWeakOrder}
+use Rattle.std.proofs.Common.{◌≡◌, ℕ, ◌+◌, ◌<◌, ◌≤◌, List, length, refl, sym, ap, subst, ◌∙◌, inl, inr, arith, false}
+use Rattle.std.specs.Prelude.{IsTrue, ◌≢◌, max}
+use Rattle.std.proofs.lemmas.Bool.{cases_lt}
+use Rattle.lattice.specs.Lattice.{Ops, IsLattice}
+use Rattle.weak_order.specs.Order.{Elements, Layout}
 use Rattle.weak_order.specs.Order.Elements.{none, node, component}
-use Rattle.fixpoint.specs.Ascent.{met, evaluated, widened, is_done, Turns, Ascends, IsWithin, IsStableAt}
-use Rattle.fixpoint.specs.Ascent.Turns.{done, turn}
-use Rattle.fixpoint.specs.Progress.{node_at, end_at, LiesAt, EndBy, EndsBefore, next_place, IsGiven, IsInside, KeepsOutside, IsStableFrom, IsHandled, IsUnderWay, IsTurning}
+use Rattle.fixpoint.specs.Ascent.{met, evaluated, Turns, Ascends, IsStableAt}
+use Rattle.fixpoint.specs.Progress.{node_at, end_at, LiesAt, EndBy, EndsBefore, next_place, IsGiven, IsInside, KeepsOutside, IsHandled, IsUnderWay}
 use Rattle.fixpoint.specs.System.{System, Reads, element, IsTable, IsSystem}
 use Rattle.fixpoint.proofs.Tables.{element-set_same, element-set_other, table_written, within_written, met_same}
 

@@ -1,11 +1,11 @@
 -- Elements lie where their layout says, and the lengths of their components add up.
-use Rattle.std.proofs.Common.{◌≡◌, ℕ, zero, suc, ◌+◌, ◌-◌, ◌*◌, ◌<◌, ◌≤◌, List, [], ◌∷◌, ◌++◌, length, drop, get_or, refl, sym, ap, ◌∙◌, arith, append_assoc, length-append, add-zero, add-one}
+use Rattle.std.proofs.Common.{◌≡◌, ℕ, zero, suc, ◌+◌, ◌-◌, ◌*◌, List, [], ◌∷◌, ◌++◌, length, drop, refl, sym, ap, ◌∙◌, arith, append_assoc, length-append, add-zero, add-one}
 use Rattle.std.specs.Prelude.{slice_index}
 use Rattle.std.proofs.lemmas.List.{append-nil, drop-drop, drop_at, get_or-drop}
 use Rattle.weak_order.specs.Order.{Elements, Layout, nodes_of, ends_of}
 use Rattle.weak_order.specs.Order.Elements.{none, node, component}
 use Rattle.fixpoint.specs.Ascent.{ascent_bound}
-use Rattle.fixpoint.specs.Progress.{node_at, end_at, LiesAt}
+use Rattle.fixpoint.specs.Progress.{end_at, LiesAt}
 use Rattle.fixpoint.specs.System.{IsLayoutOf}
 
 -- how many nodes there are, and how many each component has, in all

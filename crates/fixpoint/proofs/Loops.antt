@@ -1,16 +1,16 @@
 -- The loops of an ascent, in the words of their variables.
-use Rattle.std.proofs.Common.{◌≡◌, ℕ, suc, ◌+◌, ◌-◌, ◌*◌, ◌<◌, ◌≤◌, List, length, refl, sym, ap, subst, ◌∙◌, set, inl, inr, arith, Bool, true, false}
-use Rattle.std.specs.Prelude.{IsTrue, IsFalse, ◌≢◌, ◌⊎◌, ◌&&◌, max, if◌then◌else◌}
+use Rattle.std.proofs.Common.{◌≡◌, ℕ, ◌+◌, ◌-◌, ◌*◌, ◌<◌, ◌≤◌, List, length, subst, ◌∙◌, set, inl, arith, Bool, true, false}
+use Rattle.std.specs.Prelude.{IsFalse, ◌&&◌, if◌then◌else◌}
 use Rattle.std.proofs.lemmas.Bool.{and_from}
-use Rattle.lattice.specs.Lattice.{Ops, IsLattice, AreWithin}
+use Rattle.lattice.specs.Lattice.{Ops, IsLattice}
 use Rattle.weak_order.specs.Order.{Layout}
-use Rattle.fixpoint.specs.Ascent.{met, evaluated, widened, is_done}
-use Rattle.fixpoint.specs.Progress.{node_at, end_at, next_place, EndBy, EndsBefore, IsGiven, IsInside, IsHandled, IsUnderWay, IsTurning, Costs, potential}
-use Rattle.fixpoint.specs.System.{System, element, IsTable, IsSystem}
-use Rattle.fixpoint.proofs.Handling.{advances, begins, ends, in_range, met_shape, next_ends, node_handled}
+use Rattle.fixpoint.specs.Ascent.{met, widened, is_done}
+use Rattle.fixpoint.specs.Progress.{node_at, end_at, next_place, EndBy, IsGiven, IsInside, IsHandled, IsUnderWay, IsTurning, Costs, potential}
+use Rattle.fixpoint.specs.System.{System, element, IsSystem}
+use Rattle.fixpoint.proofs.Handling.{advances, ends, in_range, next_ends, node_handled}
 use Rattle.fixpoint.proofs.Potential.{evaluated_potential, first_turn_potential, rank_falls, rank_kept, turn_potential}
 use Rattle.fixpoint.proofs.Tables.{element-set_same}
-use Rattle.fixpoint.proofs.Turning.{one_turn, rest_outside, turns_end, widened_inside}
+use Rattle.fixpoint.proofs.Turning.{one_turn, turns_end, widened_inside}
 
 -- the sum of a turn's costs: len is the length of the component
 turn_sum : (turned : Bool) (len at_t at_u at_w at_v b c d e : ℕ) → 0 < len → at_w + (if turned then len else 0) ≤ at_u

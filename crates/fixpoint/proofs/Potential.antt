@@ -1,13 +1,13 @@
 -- How much the heads can still grow: it falls with each turn that isn't the first, and never rises.
-use Rattle.std.proofs.Common.{◌≡◌, ℕ, zero, suc, ◌+◌, ◌-◌, ◌*◌, ◌<◌, ◌≤◌, List, length, refl, sym, ap, subst, ◌∙◌, set, inl, inr, arith, Bool, true, false}
-use Rattle.std.specs.Prelude.{IsTrue, IsFalse, ◌≢◌, ◌⊎◌, ◌&&◌}
+use Rattle.std.proofs.Common.{◌≡◌, ℕ, zero, suc, ◌+◌, ◌-◌, ◌*◌, ◌<◌, ◌≤◌, List, sym, ap, subst, ◌∙◌, set, inl, inr, arith, true}
+use Rattle.std.specs.Prelude.{IsTrue, IsFalse, ◌≢◌}
 use Rattle.std.proofs.Math.Nat.{mul-le-mul_left}
 use Rattle.std.proofs.lemmas.Bool.{cases_eq, cases_lt, false≢true}
-use Rattle.lattice.specs.Lattice.{Ops, IsLattice, AreWithin}
+use Rattle.lattice.specs.Lattice.{Ops, IsLattice}
 use Rattle.weak_order.specs.Order.{Layout}
 use Rattle.fixpoint.specs.Ascent.{met, evaluated, widened, is_done}
 use Rattle.fixpoint.specs.Progress.{node_at, end_at, IsGiven, IsInside, potential}
-use Rattle.fixpoint.specs.System.{System, element, IsTable, IsSystem}
+use Rattle.fixpoint.specs.System.{System, element, IsSystem}
 use Rattle.fixpoint.proofs.Handling.{others, in_range}
 use Rattle.fixpoint.proofs.Tables.{element-set_same, element-set_other}
 use Rattle.fixpoint.proofs.Turning.{may_widen}

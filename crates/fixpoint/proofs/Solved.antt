@@ -1,11 +1,10 @@
 -- The ascent as a whole: its beginning, what it ends with, and its cost.
-use Rattle.std.proofs.Common.{◌≡◌, ℕ, zero, suc, ◌+◌, ◌-◌, ◌*◌, ◌<◌, ◌≤◌, List, length, map, get_or, refl, sym, ap, subst, ◌∙◌, arith, inl, inr, zero-add}
-use Rattle.std.specs.Prelude.{IsTrue}
+use Rattle.std.proofs.Common.{◌≡◌, ℕ, zero, suc, ◌+◌, ◌-◌, ◌*◌, ◌<◌, ◌≤◌, List, length, sym, ap, subst, ◌∙◌, arith, zero-add}
 use Rattle.std.proofs.Math.Nat.{mul-le-mul_left}
 use Rattle.std.proofs.lemmas.List.{get_or-map, length-map, same_lists}
 use Rattle.lattice.specs.Lattice.{Ops, IsLattice}
 use Rattle.weak_order.specs.Order.{Elements, Layout}
-use Rattle.fixpoint.specs.Ascent.{bottoms, IsAscent, IsWithin, IsStableAt, IsStable, AreAtMost, ascent_bound}
+use Rattle.fixpoint.specs.Ascent.{bottoms, IsAscent, IsStableAt, IsStable, AreAtMost, ascent_bound}
 use Rattle.fixpoint.specs.Progress.{node_at, end_at, IsGiven, IsInside, IsHandled, Costs, potential}
 use Rattle.fixpoint.specs.System.{System, element, IsTable, IsSystem, IsLayoutOf}
 use Rattle.fixpoint.proofs.Handling.{in_range}

@@ -1,6 +1,6 @@
 -- Tables of a system after a write at one node, and what an equation gives at tables that agree where it reads.
-use Rattle.std.proofs.Common.{◌≡◌, ℕ, ◌<◌, List, length, refl, sym, ap, ◌∙◌, set, inl, inr, get_or-set_same, get_or-set_other, get_or, map, take, drop, ◌+◌, ◌++◌}
-use Rattle.std.specs.Prelude.{IsTrue, ◌≢◌, ◌⊎◌}
+use Rattle.std.proofs.Common.{◌≡◌, ℕ, ◌<◌, List, length, sym, ap, ◌∙◌, set, inl, inr, get_or-set_same, get_or-set_other, get_or, map, take, drop, ◌+◌, ◌++◌}
+use Rattle.std.specs.Prelude.{IsTrue, ◌≢◌}
 use Rattle.std.specs.List.{Contains}
 use Rattle.std.proofs.lemmas.Bool.{cases_eq}
 use Rattle.std.proofs.lemmas.List.{get_or-map, length-map, length-set, map-set}
@@ -56,3 +56,11 @@ cleared_more {X} {V} o f start now i x y inside same read before cleared =
     let read_value : f x ≡ get_or (map f now) i (f x) = ap f read ∙ sym (get_or-map f now i x (f x) inside) in
     map-set f now i y ∙ ap (λ (v : V). set (map f now) i v) (cleared ∙ ap (λ (z : X). o.bottom (o.shape (f z))) (sym read))
     ∙ map_over_more bottom_of (map f start) (map f now) i (f x) (rw length-map (rw (← same) inside)) before read_value
+
+-- an element of the table, and one that was written, by their values
+pub value_at : {X V : Type 0} (o : Ops V) (f : X → V) (xs : List X) (k : ℕ) (x : X) → k < length xs → f (get_or xs k x) ≡ element o (map f xs) k
+value_at o f xs k x inside = sym (get_or-map f xs k x (o.bottom 0) inside)
+
+pub value_written : {X V : Type 0} (o : Ops V) (f : X → V) (xs : List X) (k : ℕ) (y : X) → k < length xs → element o (map f (set xs k y)) k ≡ f y
+value_written o f xs k y inside =
+    ap (λ (vs : List _). element o vs k) (map-set f xs k y) ∙ get_or-set_same (map f xs) k (f y) (o.bottom 0) (rw length-map inside)

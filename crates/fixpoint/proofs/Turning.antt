@@ -1,16 +1,16 @@
 -- The turns of a component: the first, one more, and the end.
-use Rattle.std.proofs.Common.{◌≡◌, ℕ, suc, ◌+◌, ◌<◌, ◌≤◌, List, length, refl, sym, ap, subst, ◌∙◌, set, inl, inr, arith, Bool, true, false}
-use Rattle.std.specs.Prelude.{IsTrue, IsFalse, ◌≢◌, ◌⊎◌, ◌&&◌, ◌-◌, if◌then◌else◌}
-use Rattle.std.proofs.lemmas.Bool.{cases_eq, cases_lt, and_parts, false≢true}
+use Rattle.std.proofs.Common.{◌≡◌, ℕ, ◌+◌, ◌<◌, ◌≤◌, List, refl, sym, subst, ◌∙◌, inl, inr, arith, Bool, true, false}
+use Rattle.std.specs.Prelude.{IsTrue, IsFalse, ◌⊎◌}
+use Rattle.std.proofs.lemmas.Bool.{cases_eq, and_parts, false≢true}
 use Rattle.lattice.specs.Lattice.{Ops, IsLattice, AreWithin}
-use Rattle.weak_order.specs.Order.{Elements, Layout, IsWeakOrder}
+use Rattle.weak_order.specs.Order.{Elements, Layout}
 use Rattle.weak_order.specs.Order.Elements.{none, node, component}
-use Rattle.fixpoint.specs.Ascent.{met, widened, is_done, Turns, Ascends, IsWithin, IsStableAt}
+use Rattle.fixpoint.specs.Ascent.{met, widened, is_done, Turns, Ascends, IsStableAt}
 use Rattle.fixpoint.specs.Ascent.Turns.{done, turn}
-use Rattle.fixpoint.specs.Progress.{node_at, end_at, LiesAt, IsGiven, IsInside, KeepsOutside, IsStableFrom, IsHandled, IsTurning}
-use Rattle.fixpoint.specs.System.{System, element, IsTable, IsSystem}
-use Rattle.fixpoint.proofs.Handling.{nothing_lies, others, in_range, met_shape, met_within}
-use Rattle.fixpoint.proofs.Tables.{element-set_same, element-set_other, table_written, within_written}
+use Rattle.fixpoint.specs.Progress.{node_at, end_at, LiesAt, IsGiven, IsInside, IsHandled, IsTurning}
+use Rattle.fixpoint.specs.System.{System, element, IsSystem}
+use Rattle.fixpoint.proofs.Handling.{nothing_lies, others, met_shape, met_within}
+use Rattle.fixpoint.proofs.Tables.{element-set_other, table_written, within_written}
 
 module _ {V P : Type 0} {has : V → P → Type 0} (o : Ops V) (laws : IsLattice o has) (s : System V) (system : IsSystem o s)
     (layout : Layout) (limits : List V) (room : ℕ) (given : IsGiven o s layout limits room) where

@@ -1,9 +1,12 @@
 -- The descending iteration after an ascent (Bourdoncle, FMPA 1993): whole passes with a narrowing at heads.
 use Rattle.std.specs.Prelude.{◌≡◌, ℕ, List, [], ◌∷◌, ◌++◌, slice_set}
 use Rattle.std.specs.List.{Contains}
+use Rattle.std.proofs.Common.{subst, sym}
+use Rattle.std.proofs.lemmas.List.Elements.{Contains-append_left, Contains-append_right}
 use Rattle.lattice.specs.Lattice.{Ops}
-use Rattle.weak_order.specs.Order.{Elements}
+use Rattle.weak_order.specs.Order.{Elements, nodes_of}
 use Rattle.weak_order.specs.Order.Elements.{none, node, component}
+use Rattle.fixpoint.specs.Members.{contains_first, contains_later}
 use Rattle.fixpoint.specs.System.{System, element}
 
 -- the table in which a node was met with its equation's value
@@ -34,3 +37,31 @@ pub data IsDescent {V : Type 0} (o : Ops V) (s : System V) (limits : List V) (el
   last : {t u : List V} → KeepsHeads o elements t (pass o s limits elements t) → u ≡ pass o s limits elements t → IsDescent o s limits elements t u
   next : {t u : List V} → ¬ KeepsHeads o elements t (pass o s limits elements t) → IsDescent o s limits elements (pass o s limits elements t) u
       → IsDescent o s limits elements t u
+
+-- what each step of a pass keeps, the pass keeps: a pass is a list of tables, each of which differs from the one before at one node
+pub pass_keeps : {V : Type 0} (o : Ops V) (s : System V) (limits : List V) (elements : Elements) (P : List V → Type 0)
+    → ((k : ℕ) (t : List V) → Contains (nodes_of elements) k → P t → P (lowered o s t k))
+    → ((k : ℕ) (t : List V) → Contains (nodes_of elements) k → P t → P (narrowed o s limits t k))
+    → (t : List V) → P t → P (pass o s limits elements t)
+pass_keeps o s limits none P lowers narrows t holds = holds
+pass_keeps o s limits (node k rest) P lowers narrows t holds =
+    pass_keeps o s limits rest P (λ i u at. lowers i u (contains_later k i (nodes_of rest) at)) (λ i u at. narrows i u (contains_later k i (nodes_of rest) at))
+    (lowered o s t k) (lowers k t (contains_first k (nodes_of rest)) holds)
+pass_keeps o s limits (component head body rest) P lowers narrows t holds =
+    let members = nodes_of body ++ nodes_of rest in
+    let in_body = λ (i : ℕ) (at : Contains (nodes_of body) i). contains_later head i members (Contains-append_left (nodes_of body) (nodes_of rest) i at) in
+    let in_rest = λ (i : ℕ) (at : Contains (nodes_of rest) i). contains_later head i members (Contains-append_right (nodes_of body) (nodes_of rest) i at) in
+    let after_head = narrows head t (contains_first head members) holds in
+    let after_body = pass_keeps o s limits body P (λ i u at. lowers i u (in_body i at)) (λ i u at. narrows i u (in_body i at)) (narrowed o s limits t head) after_head in
+    pass_keeps o s limits rest P (λ i u at. lowers i u (in_rest i at)) (λ i u at. narrows i u (in_rest i at))
+    (pass o s limits body (narrowed o s limits t head)) after_body
+
+-- and so does the descent
+pub descent_keeps : {V : Type 0} (o : Ops V) (s : System V) (limits : List V) (elements : Elements) (P : List V → Type 0)
+    → ((k : ℕ) (t : List V) → Contains (nodes_of elements) k → P t → P (lowered o s t k))
+    → ((k : ℕ) (t : List V) → Contains (nodes_of elements) k → P t → P (narrowed o s limits t k))
+    → (t u : List V) → IsDescent o s limits elements t u → P t → P u
+descent_keeps o s limits elements P lowers narrows t u (last keeps is) holds =
+    subst P (sym is) (pass_keeps o s limits elements P lowers narrows t holds)
+descent_keeps o s limits elements P lowers narrows t u (next changes after) holds =
+    descent_keeps o s limits elements P lowers narrows (pass o s limits elements t) u after (pass_keeps o s limits elements P lowers narrows t holds)

@@ -1,5 +1,5 @@
 -- What holds of a table while an ascent is under way: words for the contracts of its parts.
-use Rattle.std.specs.Prelude.{◌≡◌, ℕ, zero, suc, ◌+◌, ◌-◌, ◌*◌, ◌<◌, ◌≤◌, max, Bool, true, false, List, slice_index, slice_set, IsTrue, ◌⊎◌, if◌then◌else◌}
+use Rattle.std.specs.Prelude.{◌≡◌, ℕ, zero, suc, ◌+◌, ◌-◌, ◌*◌, ◌<◌, ◌≤◌, max, Bool, false, List, slice_index, IsTrue, ◌⊎◌}
 use Rattle.lattice.specs.Lattice.{Ops}
 use Rattle.weak_order.specs.Order.{Elements, Layout, IsWeakOrder}
 use Rattle.weak_order.specs.Order.Elements.{none, node, component}

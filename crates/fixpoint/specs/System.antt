@@ -1,5 +1,5 @@
 -- Systems of equations over a lattice, and tables of its values.
-use Rattle.std.specs.Prelude.{◌≡◌, ℕ, ◌<◌, ◌≤◌, List, length, map, slice_index_or, IsTrue}
+use Rattle.std.specs.Prelude.{◌≡◌, ℕ, ◌<◌, ◌≤◌, List, length, slice_index_or}
 use Rattle.std.specs.List.{Contains}
 use Rattle.lattice.specs.Lattice.{Ops}
 use Rattle.weak_order.specs.Order.{Elements, Layout, nodes_of, ends_of}

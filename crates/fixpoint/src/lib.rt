@@ -3,7 +3,11 @@
 #![tactic(auto)]
 
 mod ascent;
+mod descent;
 mod equations;
+mod uniqueness;
 
 pub use ascent::ascend;
+pub use descent::descend;
 pub use equations::Equations;
+pub use uniqueness::solutions_are_unique;

@@ -1,8 +1,8 @@
-use Rattle.std.proofs.Common.{ℕ, ◌≡◌, ◌<◌, ◌+◌, ◌-◌, ◌≤◌, List, map, arith, refl, sym, ◌∙◌, Bool, true, false}
+use Rattle.std.proofs.Common.{◌≡◌, ◌≤◌, map, arith, sym, ◌∙◌, false}
 use Rattle.std.specs.Prelude.{◌&&◌}
 use Rattle.std.proofs.lemmas.Bool.{and_left, and_right}
 use Rattle.fixpoint.specs.System.{element}
-use Rattle.fixpoint.specs.Progress.{node_at, end_at}
+use Rattle.fixpoint.specs.Progress.{end_at}
 use Rattle.fixpoint.proofs.Loops.{part_ends, part_step, part_cost, node_step, node_cost, component_ends, turn_step, turn_cost}
 use Rattle.fixpoint.proofs.ascent.+solve.Goals as goal
 use Rattle.fixpoint.proofs.ascent.+solve.Goals.{component-else-turned-via-then-turned+else-lies_within, component-else-turned-via-else-turned}

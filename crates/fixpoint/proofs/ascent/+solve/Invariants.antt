@@ -1,7 +1,7 @@
-use Rattle.std.proofs.Common.{◌≡◌, ℕ, ◌+◌, ◌-◌, ◌*◌, ◌<◌, ◌≤◌, max, map, true, false}
+use Rattle.std.proofs.Common.{◌≡◌, ◌+◌, ◌-◌, ◌*◌, max, map}
 use Rattle.std.specs.Prelude.{if◌then◌else◌}
 use Rattle.fixpoint.specs.System.{element}
-use Rattle.fixpoint.specs.Progress.{node_at, end_at, IsUnderWay, IsTurning, Costs}
+use Rattle.fixpoint.specs.Progress.{end_at, IsUnderWay, IsTurning, Costs}
 use Rattle.fixpoint.proofs.ascent.+solve.Given as goal
 
 -- a call comes to fewer places, or from a part to an element, or from an element to a component

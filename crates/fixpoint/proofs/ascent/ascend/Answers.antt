@@ -1,5 +1,4 @@
-use Rattle.std.proofs.Common.{◌≡◌, ℕ, map, sym, ◌∙◌}
-use Rattle.fixpoint.specs.Ascent.{bottoms}
+use Rattle.std.proofs.Common.{map, ◌∙◌}
 use Rattle.fixpoint.specs.Progress.{IsGiven}
 use Rattle.fixpoint.proofs.Solved.{ascent_of, bottoms_same, evaluations_of, stable_of}
 use Rattle.fixpoint.proofs.ascent.ascend.Goals as goal

@@ -1,4 +1,4 @@
-use Rattle.std.proofs.Common.{List, map, ap, slice_set, ◌∙◌}
+use Rattle.std.proofs.Common.{map, ap, slice_set, ◌∙◌}
 use Rattle.std.proofs.lemmas.List.{map-set}
 use Rattle.fixpoint.proofs.ascent.store.Goals as goal
 

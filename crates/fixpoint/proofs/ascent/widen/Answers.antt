@@ -1,4 +1,4 @@
-use Rattle.std.proofs.Common.{List, map, slice_set, refl, sym}
+use Rattle.std.proofs.Common.{refl, sym}
 use Rattle.std.proofs.lemmas.List.{get_or-map, map-set}
 use Rattle.fixpoint.proofs.Tables.{value_read}
 use Rattle.fixpoint.proofs.ascent.widen.Goals as goal
