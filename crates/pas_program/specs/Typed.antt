@@ -11,8 +11,9 @@ use Rattle.px_base.specs.declared.operator.UnOp.TheVariants as unary
 use Rattle.pas_program.specs.declared.expr.Access.{Access}
 use Rattle.pas_program.specs.declared.expr.Actual.{Actual}
 use Rattle.pas_program.specs.declared.expr.Actual.TheOpen.{Access-F, Actual-F, ExprForm-F, Expr-F}
-use Rattle.pas_program.specs.declared.expr.Actual.TheFolds.{fold-Access, fold-Actual, fold-Expr}
+use Rattle.pas_program.specs.declared.expr.Actual.TheFolds.{fold-Access, fold-Actual, fold-Expr, fold-ExprForm}
 use Rattle.pas_program.specs.declared.expr.Expr.{Expr}
+use Rattle.pas_program.specs.declared.expr.ExprForm.{ExprForm}
 use Rattle.pas_program.specs.declared.statement.Arm.{Arm}
 use Rattle.pas_program.specs.declared.statement.Body.{Body}
 use Rattle.pas_program.specs.declared.statement.Body.TheOpen.{Body-F, Statement-F}
@@ -138,11 +139,18 @@ function_fits t actuals slot h = are_passed_to t actuals h.formals && holds_of (
 abbrev pub procedure_fits : Tables → List Passed → Head → Bool
 procedure_fits t actuals h = are_passed_to t actuals h.formals && is_none h.result
 
+-- the host that an operator gives, where its operands may have theirs
+abbrev pub unary_host : UnOp → Hosted → Hosted
+unary_host op part = record { fits = part.fits && unary_takes op part.boolean; boolean = unary_gives op }
+
+abbrev pub binary_host : BinOp → Hosted → Hosted → Hosted
+binary_host op left right = record { fits = (left.fits && right.fits) && binary_takes op left.boolean right.boolean; boolean = binary_gives op }
+
 abbrev pub form_type_step : Tables → ExprForm-F Passed Hosted Reached Hosted → Hosted
 form_type_step t (ExprForm-F.Const boolean value) = record { fits = in_host boolean value; boolean = boolean }
 form_type_step t (ExprForm-F.«ExprForm::Value» access) = hosted_if access.fits (hosted_by (t.type_at access.of_type))
-form_type_step t (ExprForm-F.Unary op part at) = record { fits = part.fits && unary_takes op part.boolean; boolean = unary_gives op }
-form_type_step t (ExprForm-F.Binary op left right at) = record { fits = (left.fits && right.fits) && binary_takes op left.boolean right.boolean; boolean = binary_gives op }
+form_type_step t (ExprForm-F.Unary op part at) = unary_host op part
+form_type_step t (ExprForm-F.Binary op left right at) = binary_host op left right
 form_type_step t (ExprForm-F.Call routine actuals slot at) = hosted_if (holds_of (function_fits t actuals slot) (t.head_at routine)) (hosted_by (type_of_var t slot))
 
 abbrev pub expr_type_step : Expr-F Passed Hosted Reached Hosted → Hosted
@@ -150,6 +158,9 @@ expr_type_step e = e.form
 
 abbrev pub hosted : Tables → Expr → Hosted
 hosted t = fold-Expr Passed Hosted Reached Hosted actual_type_step (form_type_step t) (access_type_step t) expr_type_step
+
+abbrev pub hosted_form : Tables → ExprForm → Hosted
+hosted_form t = fold-ExprForm Passed Hosted Reached Hosted actual_type_step (form_type_step t) (access_type_step t) expr_type_step
 
 abbrev pub reached : Tables → Access → Reached
 reached t = fold-Access Passed Hosted Reached Hosted actual_type_step (form_type_step t) (access_type_step t) expr_type_step
