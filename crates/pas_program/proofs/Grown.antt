@@ -11,14 +11,24 @@ use Rattle.pas_program.specs.declared.expr.Actual.TheFolds.{fold-roll-Access, fo
 use Rattle.pas_program.specs.declared.expr.Actual.TheViews.{roll-Access, roll-Actual, roll-Expr, roll-ExprForm}
 use Rattle.pas_program.specs.declared.expr.Expr.{Expr}
 use Rattle.pas_program.specs.declared.expr.ExprForm.{ExprForm}
+use Rattle.pas_program.specs.declared.statement.Arm.{Arm}
+use Rattle.pas_program.specs.declared.statement.Body.{Body}
+use Rattle.pas_program.specs.declared.statement.Body.TheOpen.{Arm-F, Body-F, Statement-F}
+use Rattle.pas_program.specs.declared.statement.Body.TheFolds.{fold-roll-Arm, fold-roll-Body, fold-roll-Statement, fold_out-Arm, ind-Statement, map-Arm, map-Body, map-Statement}
+use Rattle.pas_program.specs.declared.statement.Body.TheViews.{roll-Arm, roll-Body, roll-Statement, out-Arm}
+use Rattle.pas_program.specs.declared.statement.Statement.{Statement}
+use Rattle.pas_program.specs.declared.statement.WriteItem.{WriteItem}
+use Rattle.pas_program.specs.declared.statement.WriteValue.{WriteValue}
+use Rattle.pas_program.specs.declared.statement.WriteValue.TheVariants as written
+use Rattle.pas_program.specs.Each.{all_true, true_if_some, constants, arm_step}
 use Rattle.pas_program.specs.declared.type_def.TypeDef.{TypeDef}
 use Rattle.pas_program.specs.declared.type_def.TypeDef.TheVariants.{Scalar, Array}
 use Rattle.pas_program.specs.declared.variable.VarDef.{VarDef}
 use Rattle.pas_program.specs.declared.variable.VarKind.TheVariants as kind
 use Rattle.pas_program.specs.Tables.{Tables, Head, Grows, holds_of, is_kind}
-use Rattle.pas_program.specs.Typed.{Hosted, Reached, Passed, scalar, whole, by_var, hosted, hosted_form, reached, passed, hosted_by, hosted_if, element_of, subscripted, access_from, is_passed_to, are_passed_to, function_fits, type_of_var, unary_host, binary_host, actual_type_step, form_type_step, access_type_step, expr_type_step}
-use Rattle.pas_program.specs.Types.{has_host, is_array}
-use Rattle.pas_program.proofs.Weaker.{With}
+use Rattle.pas_program.specs.Typed.{is_of_host, is_target, procedure_fits, copy_fits, loop_fits, written_fits, item_fits, body_type_step, statement_type_step, body_types_fit, statement_types_fit, arm_types, arm_types_fit, Hosted, Reached, Passed, scalar, whole, by_var, hosted, hosted_form, reached, passed, hosted_by, hosted_if, element_of, subscripted, access_from, is_passed_to, are_passed_to, function_fits, type_of_var, unary_host, binary_host, actual_type_step, form_type_step, access_type_step, expr_type_step}
+use Rattle.pas_program.specs.Types.{has_host, in_host, is_array}
+use Rattle.pas_program.proofs.Weaker.{Along, With, all_along, list_all_weaker}
 
 -- ---- what is found is found again
 
@@ -218,3 +228,154 @@ module _ (t u : Tables) (g : Grows t u) where
           (λ x y is. subst (λ z. OfForm (roll-ExprForm z)) is (of_form y))
           (λ x y is. subst (λ z. OfAccess (roll-Access z)) is (of_access y))
           (λ x y is. subst (λ z. OfExpr (roll-Expr z)) is (of_expr y))
+
+  pub actual_type_again : (a : Actual) → passed_fits (passed t a) ≡ true → passed u a ≡ passed t a
+  actual_type_again =
+      ind-Actual OfActual OfForm OfAccess OfExpr
+          (λ x y is. subst (λ z. OfActual (roll-Actual z)) is (of_actual y))
+          (λ x y is. subst (λ z. OfForm (roll-ExprForm z)) is (of_form y))
+          (λ x y is. subst (λ z. OfAccess (roll-Access z)) is (of_access y))
+          (λ x y is. subst (λ z. OfExpr (roll-Expr z)) is (of_expr y))
+
+  -- ---- statements
+
+  host_again : (b : Bool) (e : Expr) → is_of_host b (hosted t e) ≡ true → is_of_host b (hosted u e) ≡ true
+  host_again b e h = ap (is_of_host b) (expr_again e (and_parts (hosted t e).fits _ h).0) ∙ h
+
+  target_again : (b : Bool) (a : Access) → is_target t b (reached t a) ≡ true → is_target u b (reached u a) ≡ true
+  target_again b a h =
+      let p = and_parts (reached t a).fits _ h in
+      ap (is_target u b) (access_type_again a p.0) ∙ ap (λ o. (reached t a).fits && has_host b o) (same_index b (reached t a).of_type p.1) ∙ h
+
+  with_actuals : List Actual → List (With OfActual)
+  with_actuals xs = map (λ a. (a, actual_type_again a)) xs
+
+  all_actuals : (xs : List Actual) → actuals_in (with_actuals xs) ≡ xs
+  unfolding with_actuals
+  all_actuals [] = refl
+  all_actuals (a ∷ xs) = ap (λ ys. a ∷ ys) (all_actuals xs)
+
+  procedure_again : (xs : List Actual) (d : Head) → procedure_fits t (map (passed t) xs) d ≡ true → procedure_fits u (map (passed u) xs) d ≡ true
+  procedure_again xs d h =
+      let p = and_parts (are_passed_to t (map (passed t) xs) d.formals) _ h in
+      let q = subst (λ ys. are_passed_to t (map (passed t) ys) d.formals ≡ true → are_passed_to u (map (passed u) ys) d.formals ≡ true) (all_actuals xs) (actuals_again (with_actuals xs) d.formals) in
+      and_from _ _ (q p.0) p.1
+
+  written_again : (value : WriteValue) → written_fits t value ≡ true → written_fits u value ≡ true
+  written_again (written.Value e) h = ap (λ (s : Hosted). s.fits) (expr_again e h) ∙ h
+  written_again (written.Text bytes at) h = refl
+
+  width_again : (width : Option Expr) → true_if_some (option_map (λ e. is_of_host false (hosted t e)) width) ≡ true → true_if_some (option_map (λ e. is_of_host false (hosted u e)) width) ≡ true
+  width_again None h = refl
+  width_again (Some e) h = host_again false e h
+
+  item_again : (item : WriteItem) → item_fits t item ≡ true → item_fits u item ≡ true
+  item_again item h = let p = and_parts (written_fits t item.value) _ h in and_from _ _ (written_again item.value p.0) (width_again item.width p.1)
+
+  copy_again : (target source : Access) → copy_fits t (reached t target) (reached t source) ≡ true → copy_fits u (reached u target) (reached u source) ≡ true
+  copy_again target source h =
+      let p = and_parts ((reached t target).fits && (reached t source).fits) _ h in
+      let q = and_parts (reached t target).fits _ p.0 in
+      let r = and_parts (nat_eq (reached t target).of_type (reached t source).of_type) _ p.1 in
+      let n = (reached t target).of_type in
+      ap (λ x. copy_fits u x (reached u source)) (access_type_again target q.0)
+          ∙ ap (copy_fits u (reached t target)) (access_type_again source q.1)
+          ∙ and_from _ _ p.0 (and_from _ _ r.0 (ap is_array (same_by is_array refl (t.type_at n) (u.type_at n) (g.types n) r.1) ∙ r.1))
+
+  loop_again : (control bound : ℕ) (first last : Expr) → loop_fits t control bound (hosted t first) (hosted t last) ≡ true → loop_fits u control bound (hosted u first) (hosted u last) ≡ true
+  loop_again control bound first last h =
+      let p = and_parts ((hosted t first).fits && (hosted t last).fits) _ h in
+      let q = and_parts (hosted t first).fits _ p.0 in
+      let r = and_parts (has_host (hosted t first).boolean (type_of_var t control) && has_host (hosted t last).boolean (type_of_var t control)) _ p.1 in
+      let s = and_parts (has_host (hosted t first).boolean (type_of_var t control)) _ r.0 in
+      let same = same_by (has_host (hosted t first).boolean) refl (type_of_var t control) (type_of_var u control) (type_of_var_kept control) s.0 in
+      ap (λ x. loop_fits u control bound x (hosted u last)) (expr_again first q.0)
+          ∙ ap (loop_fits u control bound (hosted t first)) (expr_again last q.1)
+          ∙ and_from _ _ p.0 (and_from _ _ (subst (λ o. (has_host (hosted t first).boolean o && has_host (hosted t last).boolean o) ≡ true) (sym same) r.0) (slot_again bound control r.1))
+
+  abbrev OfBody : Body → Type 0
+  OfBody = Along (body_types_fit t) (body_types_fit u)
+
+  abbrev OfArm : Arm → Type 0
+  OfArm = Along (arm_types_fit t) (arm_types_fit u)
+
+  abbrev OfStatement : Statement → Type 0
+  OfStatement = Along (statement_types_fit t) (statement_types_fit u)
+
+  abbrev statements : List (With OfStatement) → List Statement
+  statements ys = map (λ (y : With OfStatement). y.0) ys
+
+  arm_constants : (x : Tables) (a : Arm) → (arm_types x a).1 ≡ (out-Arm a).consts
+  arm_constants x a = ap (λ b. b.1) (fold_out-Arm Bool (Bool × List ℤ) Bool (body_type_step x) arm_step statement_type_step a)
+
+  same_constants : (arms : List Arm) → constants (map (arm_types t) arms) ≡ constants (map (arm_types u) arms)
+  same_constants [] = refl
+  same_constants (a ∷ arms) = ap (λ zs. zs ++ constants (map (arm_types t) arms)) (arm_constants t a ∙ sym (arm_constants u a)) ∙ ap (λ zs. (arm_types u a).1 ++ zs) (same_constants arms)
+
+  arms_again : (arms : List (With OfArm)) → all_true (map (λ (a : Bool × List ℤ). a.0) (map (arm_types t) (map (λ (y : With OfArm). y.0) arms))) ≡ true → all_true (map (λ (a : Bool × List ℤ). a.0) (map (arm_types u) (map (λ (y : With OfArm). y.0) arms))) ≡ true
+  arms_again [] h = refl
+  arms_again (y ∷ arms) h = let p = and_parts (arm_types_fit t y.0) _ h in and_from _ _ (y.1 p.0) (arms_again arms p.1)
+
+  from_body : (d : Body-F Body Arm Statement) → body_type_step u (map-Body Body Arm Statement Bool (Bool × List ℤ) Bool (body_types_fit u) (arm_types u) (statement_types_fit u) d) ≡ true → body_types_fit u (roll-Body d) ≡ true
+  from_body d h = fold-roll-Body Bool (Bool × List ℤ) Bool (body_type_step u) arm_step statement_type_step d ∙ h
+
+  to_body : (d : Body-F Body Arm Statement) → body_types_fit t (roll-Body d) ≡ true → body_type_step t (map-Body Body Arm Statement Bool (Bool × List ℤ) Bool (body_types_fit t) (arm_types t) (statement_types_fit t) d) ≡ true
+  to_body d h = sym (fold-roll-Body Bool (Bool × List ℤ) Bool (body_type_step t) arm_step statement_type_step d) ∙ h
+
+  of_body : (y : Body-F (With OfBody) (With OfArm) (With OfStatement)) → OfBody (roll-Body (map-Body (With OfBody) (With OfArm) (With OfStatement) Body Arm Statement (λ e. e.0) (λ e. e.0) (λ e. e.0) y))
+  of_body Body-F.Empty h = from_body Body-F.Empty refl
+  of_body (Body-F.Assign target value) h =
+      let p = and_parts (hosted t value).fits _ (to_body (Body-F.Assign target value) h) in
+      let same = expr_again value p.0 in
+      from_body (Body-F.Assign target value) (ap (λ (s : Hosted). s.fits && is_target u s.boolean (reached u target)) same ∙ and_from _ _ p.0 (target_again (hosted t value).boolean target p.1))
+  of_body (Body-F.Copy target source) h = from_body (Body-F.Copy target source) (copy_again target source (to_body (Body-F.Copy target source) h))
+  of_body (Body-F.Call routine actuals at) h =
+      from_body (Body-F.Call routine actuals at)
+          (holds_kept (procedure_fits t (map (passed t) actuals)) (procedure_fits u (map (passed u) actuals)) (procedure_again actuals) (t.head_at routine) (u.head_at routine) (g.heads routine) (to_body (Body-F.Call routine actuals at) h))
+  of_body (Body-F.Read targets line) h = from_body (Body-F.Read targets line) (list_all_weaker _ _ (target_again false) targets (to_body (Body-F.Read targets line) h))
+  of_body (Body-F.Write items line) h = from_body (Body-F.Write items line) (list_all_weaker (item_fits t) (item_fits u) item_again items (to_body (Body-F.Write items line) h))
+  of_body (Body-F.Goto routine label) h = from_body (Body-F.Goto routine label) refl
+  of_body (Body-F.Begin body end) h = from_body (Body-F.Begin (statements body) end) (all_along (statement_types_fit t) (statement_types_fit u) body (to_body (Body-F.Begin (statements body) end) h))
+  of_body (Body-F.If test first None) h =
+      let p = and_parts (is_of_host true (hosted t test)) _ (to_body (Body-F.If test first.0 None) h) in
+      let r = and_parts (statement_types_fit t first.0) _ p.1 in
+      from_body (Body-F.If test first.0 None) (and_from _ _ (host_again true test p.0) (and_from _ _ (first.1 r.0) refl))
+  of_body (Body-F.If test first (Some second)) h =
+      let p = and_parts (is_of_host true (hosted t test)) _ (to_body (Body-F.If test first.0 (Some second.0)) h) in
+      let r = and_parts (statement_types_fit t first.0) _ p.1 in
+      from_body (Body-F.If test first.0 (Some second.0)) (and_from _ _ (host_again true test p.0) (and_from _ _ (first.1 r.0) (second.1 r.1)))
+  of_body (Body-F.Case selector arms) h =
+      let old = map (λ (y : With OfArm). y.0) arms in
+      let p = and_parts (hosted t selector).fits _ (to_body (Body-F.Case selector old) h) in
+      let r = and_parts (list_all (in_host (hosted t selector).boolean) (constants (map (arm_types t) old))) _ p.1 in
+      from_body (Body-F.Case selector old)
+          (ap (λ (s : Hosted). s.fits && (list_all (in_host s.boolean) (constants (map (arm_types u) old)) && all_true (map (λ (a : Bool × List ℤ). a.0) (map (arm_types u) old)))) (expr_again selector p.0)
+              ∙ and_from _ _ p.0 (and_from _ _ (subst (λ zs. list_all (in_host (hosted t selector).boolean) zs ≡ true) (same_constants old) r.0) (arms_again arms r.1)))
+  of_body (Body-F.While test body) h =
+      let p = and_parts (is_of_host true (hosted t test)) _ (to_body (Body-F.While test body.0) h) in
+      from_body (Body-F.While test body.0) (and_from _ _ (host_again true test p.0) (body.1 p.1))
+  of_body (Body-F.Repeat body at test) h =
+      let p = and_parts (all_true (map (statement_types_fit t) (statements body))) _ (to_body (Body-F.Repeat (statements body) at test) h) in
+      from_body (Body-F.Repeat (statements body) at test) (and_from _ _ (all_along (statement_types_fit t) (statement_types_fit u) body p.0) (host_again true test p.1))
+  of_body (Body-F.For control bound first down last body) h =
+      let p = and_parts (loop_fits t control bound (hosted t first) (hosted t last)) _ (to_body (Body-F.For control bound first down last body.0) h) in
+      from_body (Body-F.For control bound first down last body.0) (and_from _ _ (loop_again control bound first last p.0) (body.1 p.1))
+
+  of_arm : (y : Arm-F (With OfBody) (With OfArm) (With OfStatement)) → OfArm (roll-Arm (map-Arm (With OfBody) (With OfArm) (With OfStatement) Body Arm Statement (λ e. e.0) (λ e. e.0) (λ e. e.0) y))
+  of_arm y h =
+      let d = map-Arm (With OfBody) (With OfArm) (With OfStatement) Body Arm Statement (λ e. e.0) (λ e. e.0) (λ e. e.0) y in
+      ap (λ a. a.0) (fold-roll-Arm Bool (Bool × List ℤ) Bool (body_type_step u) arm_step statement_type_step d)
+          ∙ y.body.1 (sym (ap (λ a. a.0) (fold-roll-Arm Bool (Bool × List ℤ) Bool (body_type_step t) arm_step statement_type_step d)) ∙ h)
+
+  of_statement : (y : Statement-F (With OfBody) (With OfArm) (With OfStatement)) → OfStatement (roll-Statement (map-Statement (With OfBody) (With OfArm) (With OfStatement) Body Arm Statement (λ e. e.0) (λ e. e.0) (λ e. e.0) y))
+  of_statement y h =
+      let d = map-Statement (With OfBody) (With OfArm) (With OfStatement) Body Arm Statement (λ e. e.0) (λ e. e.0) (λ e. e.0) y in
+      fold-roll-Statement Bool (Bool × List ℤ) Bool (body_type_step u) arm_step statement_type_step d
+          ∙ y.body.1 (sym (fold-roll-Statement Bool (Bool × List ℤ) Bool (body_type_step t) arm_step statement_type_step d) ∙ h)
+
+  pub statement_again : (s : Statement) → statement_types_fit t s ≡ true → statement_types_fit u s ≡ true
+  statement_again =
+      ind-Statement OfBody OfArm OfStatement
+          (λ x y is. subst (λ z. OfBody (roll-Body z)) is (of_body y))
+          (λ x y is. subst (λ z. OfArm (roll-Arm z)) is (of_arm y))
+          (λ x y is. subst (λ z. OfStatement (roll-Statement z)) is (of_statement y))

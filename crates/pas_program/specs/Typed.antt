@@ -177,6 +177,10 @@ is_of_host boolean h = h.fits && beq boolean h.boolean
 abbrev pub is_target : Tables → Bool → Reached → Bool
 is_target t boolean r = r.fits && has_host boolean (t.type_at r.of_type)
 
+-- two whole arrays of the very same type
+abbrev pub copy_fits : Tables → Reached → Reached → Bool
+copy_fits t target source = (target.fits && source.fits) && (nat_eq target.of_type source.of_type && is_array (t.type_at target.of_type))
+
 abbrev pub written_fits : Tables → WriteValue → Bool
 written_fits t (written.Value value) = (hosted t value).fits
 written_fits t (written.Text bytes at) = true
@@ -193,7 +197,7 @@ loop_fits t control bound first last =
 abbrev pub body_type_step : Tables → Body-F Bool (Bool × List ℤ) Bool → Bool
 body_type_step t Body-F.Empty = true
 body_type_step t (Body-F.Assign target value) = (hosted t value).fits && is_target t (hosted t value).boolean (reached t target)
-body_type_step t (Body-F.Copy target source) = ((reached t target).fits && (reached t source).fits) && (nat_eq (reached t target).of_type (reached t source).of_type && is_array (t.type_at (reached t target).of_type))
+body_type_step t (Body-F.Copy target source) = copy_fits t (reached t target) (reached t source)
 body_type_step t (Body-F.Call routine actuals at) = holds_of (procedure_fits t (map (passed t) actuals)) (t.head_at routine)
 body_type_step t (Body-F.Read targets line) = list_all (λ a. is_target t false (reached t a)) targets
 body_type_step t (Body-F.Write items line) = list_all (item_fits t) items
@@ -214,5 +218,9 @@ statement_types_fit t = fold-Statement Bool (Bool × List ℤ) Bool (body_type_s
 abbrev pub body_types_fit : Tables → Body → Bool
 body_types_fit t = fold-Body Bool (Bool × List ℤ) Bool (body_type_step t) arm_step statement_type_step
 
+-- of an arm, with its constants
+abbrev pub arm_types : Tables → Arm → Bool × List ℤ
+arm_types t = fold-Arm Bool (Bool × List ℤ) Bool (body_type_step t) arm_step statement_type_step
+
 abbrev pub arm_types_fit : Tables → Arm → Bool
-arm_types_fit t a = (fold-Arm Bool (Bool × List ℤ) Bool (body_type_step t) arm_step statement_type_step a).0
+arm_types_fit t a = (arm_types t a).0
