@@ -6,8 +6,9 @@ use Rattle.std.specs.List.{list_all}
 use Rattle.pas_program.specs.declared.expr.Access.{Access}
 use Rattle.pas_program.specs.declared.expr.Actual.{Actual}
 use Rattle.pas_program.specs.declared.expr.Actual.TheOpen.{Access-F, Actual-F, ExprForm-F, Expr-F}
-use Rattle.pas_program.specs.declared.expr.Actual.TheFolds.{fold-Access, fold-Actual, fold-Expr}
+use Rattle.pas_program.specs.declared.expr.Actual.TheFolds.{fold-Access, fold-Actual, fold-Expr, fold-ExprForm}
 use Rattle.pas_program.specs.declared.expr.Expr.{Expr}
+use Rattle.pas_program.specs.declared.expr.ExprForm.{ExprForm}
 use Rattle.pas_program.specs.declared.statement.Arm.{Arm}
 use Rattle.pas_program.specs.declared.statement.Body.{Body}
 use Rattle.pas_program.specs.declared.statement.Body.TheOpen.{Arm-F, Body-F, Statement-F}
@@ -68,6 +69,9 @@ expr_step e = e.form
 abbrev pub each_expr : Rule → Expr → Bool
 each_expr q = fold-Expr Bool Bool Bool Bool actual_step (form_step q) (access_step q) expr_step
 
+abbrev pub each_form : Rule → ExprForm → Bool
+each_form q = fold-ExprForm Bool Bool Bool Bool actual_step (form_step q) (access_step q) expr_step
+
 abbrev pub each_access : Rule → Access → Bool
 each_access q = fold-Access Bool Bool Bool Bool actual_step (form_step q) (access_step q) expr_step
 
@@ -115,5 +119,9 @@ each_statement q = fold-Statement Bool (Bool × List ℤ) Bool (body_step q) arm
 abbrev pub each_body : Rule → Body → Bool
 each_body q = fold-Body Bool (Bool × List ℤ) Bool (body_step q) arm_step (statement_step q)
 
+-- of an arm, with its constants
+abbrev pub arm_of : Rule → Arm → Bool × List ℤ
+arm_of q = fold-Arm Bool (Bool × List ℤ) Bool (body_step q) arm_step (statement_step q)
+
 abbrev pub each_arm : Rule → Arm → Bool
-each_arm q a = (fold-Arm Bool (Bool × List ℤ) Bool (body_step q) arm_step (statement_step q) a).0
+each_arm q a = (arm_of q a).0

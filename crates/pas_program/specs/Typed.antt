@@ -11,8 +11,9 @@ use Rattle.px_base.specs.declared.operator.UnOp.TheVariants as unary
 use Rattle.pas_program.specs.declared.expr.Access.{Access}
 use Rattle.pas_program.specs.declared.expr.Actual.{Actual}
 use Rattle.pas_program.specs.declared.expr.Actual.TheOpen.{Access-F, Actual-F, ExprForm-F, Expr-F}
-use Rattle.pas_program.specs.declared.expr.Actual.TheFolds.{fold-Access, fold-Actual, fold-Expr}
+use Rattle.pas_program.specs.declared.expr.Actual.TheFolds.{fold-Access, fold-Actual, fold-Expr, fold-ExprForm}
 use Rattle.pas_program.specs.declared.expr.Expr.{Expr}
+use Rattle.pas_program.specs.declared.expr.ExprForm.{ExprForm}
 use Rattle.pas_program.specs.declared.statement.Arm.{Arm}
 use Rattle.pas_program.specs.declared.statement.Body.{Body}
 use Rattle.pas_program.specs.declared.statement.Body.TheOpen.{Body-F, Statement-F}
@@ -138,11 +139,18 @@ function_fits t actuals slot h = are_passed_to t actuals h.formals && holds_of (
 abbrev pub procedure_fits : Tables → List Passed → Head → Bool
 procedure_fits t actuals h = are_passed_to t actuals h.formals && is_none h.result
 
+-- the host that an operator gives, where its operands may have theirs
+abbrev pub unary_host : UnOp → Hosted → Hosted
+unary_host op part = record { fits = part.fits && unary_takes op part.boolean; boolean = unary_gives op }
+
+abbrev pub binary_host : BinOp → Hosted → Hosted → Hosted
+binary_host op left right = record { fits = (left.fits && right.fits) && binary_takes op left.boolean right.boolean; boolean = binary_gives op }
+
 abbrev pub form_type_step : Tables → ExprForm-F Passed Hosted Reached Hosted → Hosted
 form_type_step t (ExprForm-F.Const boolean value) = record { fits = in_host boolean value; boolean = boolean }
 form_type_step t (ExprForm-F.«ExprForm::Value» access) = hosted_if access.fits (hosted_by (t.type_at access.of_type))
-form_type_step t (ExprForm-F.Unary op part at) = record { fits = part.fits && unary_takes op part.boolean; boolean = unary_gives op }
-form_type_step t (ExprForm-F.Binary op left right at) = record { fits = (left.fits && right.fits) && binary_takes op left.boolean right.boolean; boolean = binary_gives op }
+form_type_step t (ExprForm-F.Unary op part at) = unary_host op part
+form_type_step t (ExprForm-F.Binary op left right at) = binary_host op left right
 form_type_step t (ExprForm-F.Call routine actuals slot at) = hosted_if (holds_of (function_fits t actuals slot) (t.head_at routine)) (hosted_by (type_of_var t slot))
 
 abbrev pub expr_type_step : Expr-F Passed Hosted Reached Hosted → Hosted
@@ -150,6 +158,9 @@ expr_type_step e = e.form
 
 abbrev pub hosted : Tables → Expr → Hosted
 hosted t = fold-Expr Passed Hosted Reached Hosted actual_type_step (form_type_step t) (access_type_step t) expr_type_step
+
+abbrev pub hosted_form : Tables → ExprForm → Hosted
+hosted_form t = fold-ExprForm Passed Hosted Reached Hosted actual_type_step (form_type_step t) (access_type_step t) expr_type_step
 
 abbrev pub reached : Tables → Access → Reached
 reached t = fold-Access Passed Hosted Reached Hosted actual_type_step (form_type_step t) (access_type_step t) expr_type_step
@@ -165,6 +176,10 @@ is_of_host boolean h = h.fits && beq boolean h.boolean
 -- a variable that takes a number of the host
 abbrev pub is_target : Tables → Bool → Reached → Bool
 is_target t boolean r = r.fits && has_host boolean (t.type_at r.of_type)
+
+-- two whole arrays of the very same type
+abbrev pub copy_fits : Tables → Reached → Reached → Bool
+copy_fits t target source = (target.fits && source.fits) && (nat_eq target.of_type source.of_type && is_array (t.type_at target.of_type))
 
 abbrev pub written_fits : Tables → WriteValue → Bool
 written_fits t (written.Value value) = (hosted t value).fits
@@ -182,7 +197,7 @@ loop_fits t control bound first last =
 abbrev pub body_type_step : Tables → Body-F Bool (Bool × List ℤ) Bool → Bool
 body_type_step t Body-F.Empty = true
 body_type_step t (Body-F.Assign target value) = (hosted t value).fits && is_target t (hosted t value).boolean (reached t target)
-body_type_step t (Body-F.Copy target source) = ((reached t target).fits && (reached t source).fits) && (nat_eq (reached t target).of_type (reached t source).of_type && is_array (t.type_at (reached t target).of_type))
+body_type_step t (Body-F.Copy target source) = copy_fits t (reached t target) (reached t source)
 body_type_step t (Body-F.Call routine actuals at) = holds_of (procedure_fits t (map (passed t) actuals)) (t.head_at routine)
 body_type_step t (Body-F.Read targets line) = list_all (λ a. is_target t false (reached t a)) targets
 body_type_step t (Body-F.Write items line) = list_all (item_fits t) items
@@ -203,5 +218,9 @@ statement_types_fit t = fold-Statement Bool (Bool × List ℤ) Bool (body_type_s
 abbrev pub body_types_fit : Tables → Body → Bool
 body_types_fit t = fold-Body Bool (Bool × List ℤ) Bool (body_type_step t) arm_step statement_type_step
 
+-- of an arm, with its constants
+abbrev pub arm_types : Tables → Arm → Bool × List ℤ
+arm_types t = fold-Arm Bool (Bool × List ℤ) Bool (body_type_step t) arm_step statement_type_step
+
 abbrev pub arm_types_fit : Tables → Arm → Bool
-arm_types_fit t a = (fold-Arm Bool (Bool × List ℤ) Bool (body_type_step t) arm_step statement_type_step a).0
+arm_types_fit t a = (arm_types t a).0
