@@ -2,9 +2,12 @@
 #![tactic(auto)]
 
 mod fault;
+mod piece;
+mod scan;
 mod token;
 mod word;
 
 pub use fault::LexFault;
+pub use scan::lex;
 pub use token::{Symbol, Token, TokenKind};
 pub use word::Word;

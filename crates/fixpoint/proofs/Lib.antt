@@ -1,0 +1,10 @@
+pub mod Handling
+pub mod Layouts
+pub mod Loops
+pub mod Passes
+pub mod Potential
+pub mod Solved
+pub mod Steps
+pub mod Tables
+pub mod Turning
+pub mod OneOutcome

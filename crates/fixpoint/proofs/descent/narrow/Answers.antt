@@ -1,0 +1,25 @@
+use Rattle.std.proofs.Common.{refl}
+use Rattle.std.proofs.lemmas.List.{map-set}
+use Rattle.fixpoint.proofs.Tables.{value_at, value_read, value_written}
+use Rattle.fixpoint.proofs.descent.narrow.Goals as goal
+
+pub returns-clause-value : goal.returns-clause-value
+returns-clause-value g c =
+    let o = g.L.Lattice.ops in
+    let x = value_at o g.L.Lattice.value c.args.table.now c.args.node c.index-table-node.result c.requires.node in
+    let l = value_read o g.L.Lattice.value c.args.limits.now c.args.node c.index-limits-node.result c.requires.limit c.index-limits-node.is in
+    rw (map-set, c.narrow_from.ensures.value, x, l) refl
+
+pub returns-clause-changed : goal.returns-clause-changed
+returns-clause-changed g c =
+    let o = g.L.Lattice.ops in
+    let x = value_at o g.L.Lattice.value c.args.table.now c.args.node c.index-table-node.result c.requires.node in
+    let y = value_written o g.L.Lattice.value c.args.table.now c.args.node c.narrow_from.new.self c.requires.node in
+    rw (y, ← x) c.narrow_from.ensures.changed
+
+pub returns-clause-kept : goal.returns-clause-kept
+returns-clause-kept g c =
+    let o = g.L.Lattice.ops in
+    let x = value_at o g.L.Lattice.value c.args.table.now c.args.node c.index-table-node.result c.requires.node in
+    let y = value_written o g.L.Lattice.value c.args.table.now c.args.node c.narrow_from.new.self c.requires.node in
+    rw (y, ← x) c.narrow_from.ensures.same

@@ -1,0 +1,14 @@
+-- What a longer list contains.
+use Rattle.std.specs.Prelude.{◌≡◌, ℕ, ◌<◌, List, ◌∷◌, length, slice_index_or, ◌⊎◌}
+use Rattle.std.specs.List.{Contains}
+use Rattle.std.proofs.Common.{zero, suc, refl, inl, inr, arith}
+
+pub contains_first : (x : ℕ) (xs : List ℕ) → Contains (x ∷ xs) x
+contains_first x xs = (0, omega arith, refl)
+
+pub contains_later : (y x : ℕ) (xs : List ℕ) → Contains xs x → Contains (y ∷ xs) x
+contains_later y x xs at = (suc at.0, omega (arith, at.1), at.2)
+
+pub contains_cases : (y x : ℕ) (xs : List ℕ) (k : ℕ) → k < length (y ∷ xs) → slice_index_or (y ∷ xs) k x ≡ x → (y ≡ x) ⊎ Contains xs x
+contains_cases y x xs zero inside is = inl is
+contains_cases y x xs (suc k) inside is = inr (k, omega (arith, inside), is)

@@ -1,0 +1,10 @@
+pub mod Answers
+pub mod Bounds
+pub mod Ends
+pub mod Forward
+pub mod IntervalLaws
+pub mod Intervals
+pub mod Same
+pub mod Soundness
+pub mod ValueLaws
+pub mod Values

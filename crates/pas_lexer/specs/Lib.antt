@@ -1,0 +1,4 @@
+pub mod Covering
+pub mod Lexeme
+pub mod Scan
+pub mod Spans

@@ -1,0 +1,4 @@
+pub mod Elements
+pub mod Grown
+pub mod Layouts
+pub mod Weaker

@@ -1,0 +1,74 @@
+ghost use Rattle.std.specs.Prelude.{◌≡◌, ◌<◌, length, slice_index, IsTrue, ◌↔◌};
+ghost use Rattle.weak_order.specs.Order.{AreColumns};
+
+use std::marker::Model;
+
+/// A weak topological order: each node once, from left to right, in nested components.
+#[derive(Debug, Drop)]
+pub struct Order {
+    nodes: Vec<u32>,
+    ends: Vec<u32>,
+    depths: Vec<u32>,
+    heads: Vec<bool>,
+}
+
+impl Model for Order {
+    ghost use Rattle.weak_order.specs.Order.{AreColumns, Layout};
+
+    ghost Value = { Layout };
+
+    ghost view = { λ o. record { nodes = o.nodes.items; ends = o.ends.items } };
+
+    ghost invariant = { λ o. AreColumns o.nodes.items o.ends.items o.depths.items o.heads.items };
+}
+
+impl Order {
+    pub(crate) fn new(nodes: Vec<u32>, ends: Vec<u32>, depths: Vec<u32>, heads: Vec<bool>) -> Order
+        requires { AreColumns nodes.items ends.items depths.items heads.items }
+        ensures { result ≡ record { nodes = nodes.items; ends = ends.items } }
+    {
+        Order {
+            nodes,
+            ends,
+            depths,
+            heads,
+        }
+    }
+
+    /// How many nodes there are, which is how many places there are.
+    pub fn len(&self) -> u32
+        ensures { result ≡ length self.now.nodes }
+    {
+        self.nodes.len() as u32
+    }
+
+    /// The node at a place.
+    pub fn node(&self, place: u32) -> u32
+        requires { place < length self.now.nodes }
+        ensures { result ≡ slice_index self.now.nodes place }
+    {
+        self.nodes[place as usize]
+    }
+
+    /// One past the component that begins at the place, or the place itself where none does.
+    pub fn end(&self, place: u32) -> u32
+        requires { place < length self.now.nodes }
+        ensures { result ≡ slice_index self.now.ends place }
+    {
+        self.ends[place as usize]
+    }
+
+    /// How many components contain the node.
+    pub fn depth(&self, node: u32) -> u32
+        requires { node < length self.now.nodes }
+    {
+        self.depths[node as usize]
+    }
+
+    /// Whether the node is the head of a component.
+    pub fn is_head(&self, node: u32) -> bool
+        requires { node < length self.now.nodes }
+    {
+        self.heads[node as usize]
+    }
+}
