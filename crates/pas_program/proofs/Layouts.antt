@@ -1,14 +1,14 @@
 -- On the list of types: what a type that stands in it may rely on.
-use Rattle.std.proofs.Common.{◌≡◌, ℕ, zero, suc, ◌+◌, ◌*◌, ◌<◌, ◌≤◌, ℤ, Bool, true, false, ◌&&◌, List, [], ◌∷◌, ◌++◌, length, refl, sym, ap, ◌∙◌, arith, mul_assoc, Option, Some, None, nat_lt}
-use Rattle.std.proofs.lemmas.Bool.{and_parts, ltb-true, leb-true, true≢false}
-use Rattle.std.proofs.lemmas.Option.{none-some, slice_get_within, slice_get-get_or}
+use Rattle.std.proofs.Common.{◌≡◌, ℕ, zero, suc, ◌+◌, ◌*◌, ◌<◌, ◌≤◌, ℤ, Bool, true, false, ◌&&◌, List, [], ◌∷◌, ◌++◌, length, refl, sym, ap, subst, ◌∙◌, arith, mul_assoc, Option, Some, None, nat_lt, nat_le, inl, inr}
+use Rattle.std.proofs.lemmas.Bool.{and_parts, and_from, ltb-true, leb-true, true≢false}
+use Rattle.std.proofs.lemmas.Option.{none-some, slice_get_within, slice_get-get_or, slice_get_cases}
 use Rattle.std.proofs.Math.Nat.{mul-pos, mul-le-mul_left}
 use Rattle.std.specs.List.{slice_get}
 use Rattle.std.specs.Prelude.{int_le, unsigned_abs, ◌-ℤ◌, pos, neg_ℤ, ◌^◌}
 use Rattle.std.proofs.lemmas.Int.{ints}
 use Rattle.pas_program.specs.declared.type_def.TypeDef.{TypeDef}
 use Rattle.pas_program.specs.declared.type_def.TypeDef.TheVariants.{Scalar, Array}
-use Rattle.pas_program.specs.Types.{TypesFit, in_host, is_scalar, count_values, Layout, times, layout, layout_of, layout_within, most_elements, maxint}
+use Rattle.pas_program.specs.Types.{TypesFit, type_fits, in_host, is_scalar, count_values, Layout, times, layout, layout_of, layout_within, most_elements, maxint}
 
 -- what an array type rests on
 pub record ArrayFits (types : List TypeDef) (t index element : ℕ) : Type 0 where
@@ -127,6 +127,39 @@ append_within types more fits (suc n) t h k = append_step types more n t fits (s
 pub layout-append : (types more : List TypeDef) (t : ℕ) → TypesFit types → t < length types → layout (types ++ more) t ≡ layout types t
 unfolding layout
 layout-append types more t fits h = append_within types more fits (suc t) t (omega arith) h
+
+fits_append : (types more : List TypeDef) (t : ℕ) (d : TypeDef) → TypesFit types → t ≤ length types → type_fits types t d ≡ true → type_fits (types ++ more) t d ≡ true
+fits_append types more t (Scalar boolean lo hi) fits k h = h
+fits_append types more t (Array index element) fits k h =
+    let p = and_parts (nat_lt index t && nat_lt element t) _ h in
+    let q = and_parts (nat_lt index t) _ p.0 in
+    let r = and_parts (is_scalar (slice_get types index)) _ p.1 in
+    let i = is_scalar-append types more index (slice_get types index) refl r.0 in
+    let l = layout-append types more element fits (omega (arith, k, ltb-true element t q.1)) in
+    and_from _ _ p.0 (and_from _ _ (ap is_scalar i ∙ r.0)
+        (ap (λ o. nat_le (count_values o * (layout (types ++ more) element).count) most_elements) i
+            ∙ ap (λ (x : Layout). nat_le (count_values (slice_get types index) * x.count) most_elements) l
+            ∙ r.1))
+
+some_same : {A : Type 0} {x y : A} → Some x ≡ Some y → x ≡ y
+some_same e = cc
+
+slice_get_last : {A : Type 0} (xs : List A) (x : A) (k : ℕ) (y : A) → length xs ≤ k → slice_get (xs ++ x ∷ []) k ≡ Some y → (k ≡ length xs) × (x ≡ y)
+slice_get_last [] x zero y h e = (refl, cc)
+slice_get_last [] x (suc k) y h e = absurd (none-some y e)
+slice_get_last (z ∷ xs) x zero y h e = absurd (omega arith)
+slice_get_last (z ∷ xs) x (suc k) y h e = let r = slice_get_last xs x k y (omega arith) e in (ap suc r.0, r.1)
+
+-- a type that fits behind the others may be added
+pub types_fit_push : (types : List TypeDef) (d : TypeDef) → TypesFit types → type_fits types (length types) d ≡ true → TypesFit (types ++ d ∷ [])
+types_fit_push types d fits h = record {
+  each = λ t x e. elim (slice_get_cases types t).1 [
+    inl w ↦ (let same : w.0 ≡ x = some_same (sym (slice_get-append types (d ∷ []) t w.0 w.2) ∙ e) in
+        fits_append types (d ∷ []) t x fits (omega (arith, w.1)) (fits.each t x (w.2 ∙ ap Some same)))
+    | inr w ↦ (let r = slice_get_last types d t x w.0 e in
+        subst (λ y. type_fits (types ++ d ∷ []) t y ≡ true) r.1 (subst (λ k. type_fits (types ++ d ∷ []) k d ≡ true) (sym r.0) (fits_append types (d ∷ []) (length types) d fits (omega arith) h)))
+  ];
+}
 
 -- a scalar type has at most as many values as its host
 pub values_few : (boolean : Bool) (lo hi : ℤ) → ScalarFits boolean lo hi → unsigned_abs (hi -ℤ lo) + 1 < 2 ^ 32

@@ -1,4 +1,6 @@
 pub mod Elements
 pub mod Grown
 pub mod Layouts
+pub mod Rules
+pub mod Subscripts
 pub mod Weaker

@@ -1,10 +1,11 @@
 ghost use Rattle.std.specs.Prelude.{◌≡◌, ◌<◌, length, slice_get, true};
 ghost use Rattle.pas_program.specs.Checked.{numbers_in, scope_in, tables};
 ghost use Rattle.pas_program.specs.Each.{each_expr, each_statement};
-ghost use Rattle.pas_program.specs.Typed.{hosted, is_of_host, statement_types_fit};
+ghost use Rattle.pas_program.specs.Typed.{hosted, is_of_host, reached, statement_types_fit};
 ghost use Rattle.pas_program.specs.Types.{TypesFit, type_fits};
 ghost use Rattle.pas_program.specs.Valid.{Bounded, InRange, InScope, WellTyped};
 
+use crate::expr::Access;
 use crate::program::Program;
 use crate::routine::{Assert, Routine};
 use crate::type_def::TypeDef;
@@ -77,5 +78,21 @@ impl Program {
         ensures scopes { each_expr (scope_in self.now result.now.routine) result.now.cond ≡ true }
     {
         &self.asserts.as_slice()[a as usize]
+    }
+
+    /// The type of a variable or of an element of it. The time is linear in the number of subscripts.
+    pub fn type_of_access(&self, access: &Access) -> u32
+        requires { (reached (tables self.now) access.now).fits ≡ true }
+        ensures value { result ≡ (reached (tables self.now) access.now).of_type }
+        ensures in_range { result < length self.now.types }
+    {
+        let mut t = self.var_def(access.var).of_type;
+        for _subscript in access.subscripts.as_slice() {
+            match self.type_def(t) {
+                TypeDef::Array { element, .. } => t = element,
+                TypeDef::Scalar { .. } => unreachable!(),
+            }
+        }
+        t
     }
 }
