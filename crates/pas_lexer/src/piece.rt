@@ -43,7 +43,11 @@ fn is_line_end(b: u8) -> bool
 fn is_name_byte(b: u8) -> bool
     ensures { result ≡ lexeme.is_name_byte b }
 {
-    b == b'_' || b.is_ascii_digit() || b.is_ascii_alphabetic()
+    if b >= b'a' {
+        b <= b'z'
+    } else {
+        b.is_ascii_uppercase() || b.is_ascii_digit() || b == b'_'
+    }
 }
 
 fn name_len(rest: &[u8]) -> usize

@@ -70,7 +70,10 @@ const TOKENS: [(&[u8], &[(TokenKind, u32, u32)]); 29] = [
     (b"1e5", &[(Number(1), 0, 1), (Ident, 1, 3)]),
     (
         b"...",
-        &[(TokenKind::Symbol(DotDot), 0, 2), (TokenKind::Symbol(Dot), 2, 3)],
+        &[
+            (TokenKind::Symbol(DotDot), 0, 2),
+            (TokenKind::Symbol(Dot), 2, 3),
+        ],
     ),
     (
         b"..)",
