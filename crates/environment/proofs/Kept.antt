@@ -1,5 +1,5 @@
 -- What the values of an environment say of its slots, and how a change of the slots keeps them right.
-use Rattle.std.proofs.Common.{◌≡◌, ℕ, zero, suc, ◌+◌, ◌-◌, ◌^◌, ◌<◌, ◌≤◌, Bool, true, false, not, cond, ◌||◌, List, [], ◌∷◌, ◌++◌, length, get_or, set, take, drop, replicate, refl, sym, ap, ◌∙◌, subst, arith, IsTrue, IsFalse}
+use Rattle.std.proofs.Common.{◌≡◌, ℕ, zero, suc, ◌<◌, ◌≤◌, Bool, true, false, not, cond, List, [], ◌∷◌, ◌++◌, length, get_or, set, take, drop, replicate, refl, sym, ap, ◌∙◌, subst, arith, IsTrue, IsFalse}
 use Rattle.std.proofs.lemmas.List.{length-set, length-replicate, get_or-replicate, get_or_read, take_at}
 use Rattle.std.proofs.lemmas.Bool.{false≢true, not-true, not-false, or_parts, or_from}
 use Rattle.interval.specs.declared.val.Val.{Val}
@@ -10,7 +10,7 @@ use Rattle.environment.specs.Environments.{Environment, cell_count, is_reachable
 use Rattle.environment.specs.Environments.Environment.{Unreachable, Reachable}
 use Rattle.environment.specs.CellLaws.{something_above, something_above_each, length_below, alike, Within, within, Anyhow, along, each_above_left, within_above_left, length-each_within}
 use Rattle.environment.specs.EnvironmentLaws.{length-limits}
-use Rattle.environment.specs.Kept.{Roomy, room_of, kept, IsKept}
+use Rattle.environment.specs.Kept.{Roomy, kept, IsKept}
 
 -- ---- how the fields lie behind the value
 

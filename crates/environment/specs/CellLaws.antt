@@ -1,12 +1,12 @@
 -- The laws of values cell by cell, from those of one value.
-use Rattle.std.specs.Prelude.{◌≡◌, ◌≢◌, ℕ, zero, suc, ◌+◌, ◌*◌, ◌<◌, ◌≤◌, ◌⊎◌, Bool, true, false, not, ◌&&◌, ◌||◌, List, [], ◌∷◌, length, IsTrue, IsFalse, Option, Some, None, ℤ}
-use Rattle.std.proofs.Common.{arith, refl, inl, inr, ap, subst, ◌∙◌, sym}
+use Rattle.std.specs.Prelude.{◌≡◌, ◌≢◌, ℕ, suc, ◌*◌, ◌<◌, ◌≤◌, Bool, true, false, not, ◌&&◌, List, [], ◌∷◌, length, IsTrue, IsFalse, Option, Some, None, ℤ}
+use Rattle.std.proofs.Common.{arith, refl, inl, inr, ap, ◌∙◌}
 use Rattle.std.proofs.lemmas.Bool.{and_parts, and_from, or_parts, or_from, cases_Bool, cases_lt, false≢true}
 use Rattle.std.proofs.lemmas.Int.{ints}
 use Rattle.interval.specs.declared.itv.Itv.{Itv}
 use Rattle.interval.specs.declared.val.Val.{Val}
 use Rattle.interval.specs.Intervals.{is_empty, IsIn}
-use Rattle.interval.specs.Values.{Allows, allows_nothing, val_below, val_ops}
+use Rattle.interval.specs.Values.{Allows, allows_nothing, val_below}
 use Rattle.interval.specs.ValueLaws.{val_laws}
 use Rattle.environment.specs.Pointwise.{each, each_within, each_below, total}
 use Rattle.environment.specs.Environments.{MayHold, CoversCells, has_empty_cell}

@@ -1,11 +1,11 @@
 -- The laws of environments as a lattice.
-use Rattle.std.specs.Prelude.{◌≡◌, ◌≢◌, ℕ, ◌+◌, ◌*◌, ◌<◌, ◌≤◌, Bool, true, false, not, List, length, IsTrue, Option, ℤ, if◌then◌else◌}
+use Rattle.std.specs.Prelude.{◌≡◌, ◌≢◌, ◌+◌, ◌*◌, ◌<◌, ◌≤◌, Bool, true, false, not, List, length, IsTrue, Option, ℤ, if◌then◌else◌}
 use Rattle.std.proofs.Common.{arith, refl, ap, subst, ◌∙◌, sym}
 use Rattle.std.proofs.lemmas.Bool.{false≢true}
 use Rattle.std.proofs.lemmas.List.{length-replicate}
 use Rattle.lattice.specs.Lattice.{IsLattice, AreAlike, AreWithin}
 use Rattle.interval.specs.declared.val.Val.{Val}
-use Rattle.interval.specs.Values.{nothing, val_below, val_join, val_meet, val_widen, val_narrow, val_ops}
+use Rattle.interval.specs.Values.{nothing, val_join, val_meet, val_widen, val_narrow, val_ops}
 use Rattle.interval.specs.ValueLaws.{val_laws}
 use Rattle.environment.specs.Pointwise.{each, each_within, each_below, total}
 use Rattle.environment.specs.Environments.{Environment, cell_count, is_reachable, settled, has_empty_cell, limits, growth, shrinkage, CoversCells, Covers, env_below, env_join, env_meet, env_widen, env_narrow, env_ops}

@@ -1,5 +1,5 @@
 -- How an environment is kept: the values of its cells in a list that has memory for its room.
-use Rattle.std.specs.Prelude.{◌≡◌, ℕ, ◌+◌, ◌-◌, ◌^◌, ◌<◌, ◌≤◌, Bool, IsTrue, IsFalse, List, length, take, if◌then◌else◌}
+use Rattle.std.specs.Prelude.{◌≡◌, ℕ, ◌+◌, ◌-◌, ◌≤◌, Bool, IsTrue, IsFalse, List, length, if◌then◌else◌}
 use Rattle.std.proofs.Common.{arith}
 use Rattle.interval.specs.declared.val.Val.{Val}
 use Rattle.environment.specs.Environments.{Environment, cell_count, has_empty_cell}

@@ -1,5 +1,5 @@
 -- Functions of values, cell by cell: lists of as many cells stand for the cells of one class.
-use Rattle.std.specs.Prelude.{ℕ, zero, ◌+◌, Bool, true, false, ◌&&◌, List, [], ◌∷◌}
+use Rattle.std.specs.Prelude.{ℕ, ◌+◌, Bool, true, false, ◌&&◌, List, [], ◌∷◌}
 use Rattle.interval.specs.declared.val.Val.{Val}
 use Rattle.interval.specs.Values.{val_below}
 

@@ -5,3 +5,6 @@ mod env;
 mod passes;
 
 pub use env::{Cells, Env};
+
+#[cfg(test)]
+mod tests;

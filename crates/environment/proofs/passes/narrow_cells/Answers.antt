@@ -1,4 +1,4 @@
-use Rattle.std.proofs.Common.{◌≡◌, ◌+◌, List, set, drop, arith, refl, sym, subst, ◌∙◌, IsTrue}
+use Rattle.std.proofs.Common.{◌+◌, List, set, drop, arith, refl, sym, subst, ◌∙◌, IsTrue}
 use Rattle.std.proofs.lemmas.Bool.{OnTrue_at, OnFalse_at}
 use Rattle.interval.specs.declared.val.Val.{Val}
 use Rattle.interval.specs.Values.{val_narrow}

@@ -4,7 +4,7 @@ use Rattle.interval.specs.Values.{val_widen}
 use Rattle.interval.specs.declared.val.Val.{Val}
 use Rattle.environment.specs.Pointwise.{each_below}
 use Rattle.environment.specs.CellLaws.{length_below}
-use Rattle.environment.proofs.Progress.{IsFlag, below_at, done_within_more, untouched_more, flag_raised, flag_kept}
+use Rattle.environment.proofs.Progress.{below_at, done_within_more, untouched_more, flag_raised, flag_kept}
 use Rattle.environment.proofs.passes.widen_cells.Goals as goal
 use Rattle.environment.proofs.passes.widen_cells.Goals.{then-widen_from, else-widen_from}
 

@@ -1,10 +1,8 @@
-use Rattle.std.proofs.Common.{◌≡◌, refl, sym, ◌∙◌, get_or, ap}
-use Rattle.std.proofs.lemmas.List.{get_or-replicate}
+use Rattle.std.proofs.Common.{refl, sym, ◌∙◌}
 use Rattle.interval.specs.Intervals.{empty}
 use Rattle.interval.specs.Same.{same_bounds}
 use Rattle.interval.specs.Values.{nothing}
 use Rattle.interval.specs.ValueLaws.{same_parts}
-use Rattle.environment.specs.Environments.{Environment, cell_count, limits}
 use Rattle.environment.proofs.Kept.{unreached, limit_unreached}
 use Rattle.environment.proofs.env.Env.limit_at.Goals as goal
 

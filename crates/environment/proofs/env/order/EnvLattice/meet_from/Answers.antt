@@ -1,7 +1,7 @@
-use Rattle.std.proofs.Common.{◌≡◌, length, not, sym, ap, ◌∙◌, IsTrue}
+use Rattle.std.proofs.Common.{◌≡◌, length, not, sym, ap, ◌∙◌}
 use Rattle.interval.specs.Values.{val_meet}
 use Rattle.environment.specs.Pointwise.{each}
-use Rattle.environment.specs.Environments.{Environment, has_empty_cell, env_meet}
+use Rattle.environment.specs.Environments.{has_empty_cell, env_meet}
 use Rattle.environment.specs.Environments.Environment.{Reachable}
 use Rattle.environment.specs.CellLaws.{alike, length-each}
 use Rattle.environment.proofs.Kept.{reached, as_long, pass_settles}

@@ -1,4 +1,4 @@
-use Rattle.std.proofs.Common.{◌≡◌, refl, ◌∙◌, sym, subst, List, IsTrue}
+use Rattle.std.proofs.Common.{◌≡◌, refl, ◌∙◌}
 use Rattle.interval.specs.Values.{val_narrow}
 use Rattle.environment.specs.Pointwise.{each_within}
 use Rattle.environment.specs.Environments.{has_empty_cell, limits}
