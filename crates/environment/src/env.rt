@@ -1,7 +1,7 @@
 //! An environment with its room, and the calls on single cells.
-ghost use Rattle.std.specs.Prelude.{◌≡◌, ◌+◌, ◌<◌, ◌≤◌, IfOk, IsTrue, IsFalse, slice_get, slice_index_or};
+ghost use Rattle.std.specs.Prelude.{◌≡◌, ◌<◌, ◌≤◌, IfOk, IsTrue, IsFalse, slice_index_or};
 ghost use Rattle.interval.specs.Values.{allows_nothing, nothing};
-ghost use Rattle.environment.specs.Environments.{cell_count, is_reachable, value_at, undefined, started, after_set, after_weak_set, limits};
+ghost use Rattle.environment.specs.Environments.{cell_count, is_reachable, values, value_at, has_empty_cell, undefined, started, after_set, after_weak_set, limits};
 ghost use Rattle.environment.specs.Environments.Environment.{Unreachable};
 ghost use Rattle.environment.specs.Kept.{room_of};
 
@@ -73,9 +73,10 @@ impl Env {
         self.count
     }
 
-    /// Whether the point may be reached.
+    /// Whether the point may be reached. Then each cell allows something.
     pub fn reachable(&self) -> bool
-        ensures { result ≡ is_reachable self.now.env }
+        ensures value { result ≡ is_reachable self.now.env }
+        ensures something { IsFalse (has_empty_cell (values self.now.env)) }
     {
         self.reachable
     }
