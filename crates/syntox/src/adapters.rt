@@ -18,11 +18,7 @@ fn count(faults: &mut u64) -> Failed
 }
 
 /// Reads once, and again where a signal came between.
-fn read_from<R: Read>(
-    reader: &mut R,
-    faults: &mut u64,
-    buf: &mut [u8],
-) -> Result<usize, Failed>
+fn read_from<R: Read>(reader: &mut R, faults: &mut u64, buf: &mut [u8]) -> Result<usize, Failed>
     ensures fits { IfOk result (λ n. n ≤ length buf.old) }
     ensures cause { HasCause faults.old faults.new (is_err result) }
 {

@@ -3,7 +3,8 @@ ghost use Rattle.std.specs.Prelude.{◌≡◌, map, string_bytes, option_map};
 ghost use Rattle.syntox.specs.Command.{asked_file, is_operand};
 
 /// The whole usage line.
-pub const USAGE: &str = "usage: syntox analyse FILE [--rounds N] [--points] | run FILE [--steps N] | make N\n";
+pub const USAGE: &str =
+    "usage: syntox analyse FILE [--rounds N] [--points] | run FILE [--steps N] | make N\n";
 
 /// Whether a word is no option: it doesn't begin with `-`, or is `-` alone.
 fn is_operand(word: &str) -> bool

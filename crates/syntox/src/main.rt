@@ -5,14 +5,14 @@
 mod adapters;
 mod command;
 mod status;
+#[cfg(test)]
+mod tests;
 mod top;
-
 
 use adapters::{FileShelf, StdSink, StdSource};
 use status::Status;
-use std::env;
-use std::io;
 use std::process::ExitCode;
+use std::{env, io};
 use top::top;
 
 /// The command's words, without the program's own name.
@@ -36,6 +36,13 @@ fn main(rt: HostRuntime) -> ExitCode {
     let mut given = StdSource::new(rt.stdin());
     let mut out = StdSink::new(rt.stdout());
     let mut err = StdSink::new(rt.stderr());
-    let answer = top(rt.alloc(), &words, &mut shelf, &mut given, &mut out, &mut err);
+    let answer = top(
+        rt.alloc(),
+        &words,
+        &mut shelf,
+        &mut given,
+        &mut out,
+        &mut err,
+    );
     ExitCode::from(status::number_of(&answer))
 }

@@ -6,7 +6,8 @@ use px_base::{MemShelf, MemSink, MemSource, SureShelf, SureSink, SureSource};
 use std::alloc::{AllocError, Global};
 use std::test::Fail;
 
-const FIRST: &str = "program first(input);\nvar n, x: integer;\nbegin\n  read(n);\n  x := n + 1\nend.\n";
+const FIRST: &str =
+    "program first(input);\nvar n, x: integer;\nbegin\n  read(n);\n  x := n + 1\nend.\n";
 
 const FIRST_TEXT: &str = "file first.pas
 point 3:1 entry
@@ -46,6 +47,7 @@ const USAGE: &str =
 
 /// What a call is made with: the words, the numbers of the calls of the shelf and the sinks that fail (0 for none), and
 /// how many bytes `out` takes at most.
+#[derive(Clone, Copy)]
 struct Setting<'a> {
     words: &'a [&'a str],
     shelf_fails: u32,
@@ -62,6 +64,7 @@ const PLAIN: Setting<'static> = Setting {
     out_room: 4096,
 };
 
+#[derive(Drop)]
 struct Outcome {
     status: Result<Status, AllocError>,
     out: MemSink,
@@ -91,7 +94,7 @@ fn words_of(alloc: Global, words: &[&str]) -> Result<Vec<String>, AllocError> {
     Ok(all)
 }
 
-fn outcome(alloc: Global, setting: &Setting) -> Result<Outcome, AllocError> {
+fn answer_to(alloc: Global, setting: &Setting) -> Result<Outcome, AllocError> {
     let words = words_of(alloc, setting.words)?;
     let mut shelf = shelf(alloc, setting.shelf_fails)?;
     let mut given = MemSource::new(Vec::new(alloc), Vec::new(alloc));
@@ -108,25 +111,130 @@ fn answers(rt: HostRuntime) -> Result<(), Fail> {
     let missing = "missing.pas: cannot be read\n";
     let refused = "e.pas: not of the first form\n";
     let unread = "first.pas: cannot be read\n";
-    let file = |name| ["analyse", name];
     let cases: [(Setting, u8, &str, &str); 14] = [
         (PLAIN, 0, FIRST_TEXT, ""),
-        (Setting { words: &["analyse", "undefined.pas"], ..PLAIN }, 0, UNDEFINED_TEXT, ""),
-        (Setting { words: &["analyse", "e.pas"], ..PLAIN }, 1, "", refused),
-        (Setting { words: &["analyse", "missing.pas"], ..PLAIN }, 3, "", missing),
-        (Setting { shelf_fails: 1, ..PLAIN }, 3, "", unread),
-        (Setting { shelf_fails: 2, ..PLAIN }, 3, "", unread),
-        (Setting { shelf_fails: 4, ..PLAIN }, 0, FIRST_TEXT, ""),
-        (Setting { out_fails: 1, ..PLAIN }, 4, "", ""),
-        (Setting { out_room: 10, ..PLAIN }, 4, "file first", ""),
-        (Setting { shelf_fails: 1, err_fails: 1, ..PLAIN }, 4, "", ""),
-        (Setting { words: &[], ..PLAIN }, 2, "", USAGE),
-        (Setting { words: &["analyse"], ..PLAIN }, 2, "", USAGE),
-        (Setting { words: &["analyse", "-x"], ..PLAIN }, 2, "", USAGE),
-        (Setting { words: &[], err_fails: 2, ..PLAIN }, 4, "", "usage: "),
+        (
+            Setting {
+                words: &["analyse", "undefined.pas"],
+                ..PLAIN
+            },
+            0,
+            UNDEFINED_TEXT,
+            "",
+        ),
+        (
+            Setting {
+                words: &["analyse", "e.pas"],
+                ..PLAIN
+            },
+            1,
+            "",
+            refused,
+        ),
+        (
+            Setting {
+                words: &["analyse", "missing.pas"],
+                ..PLAIN
+            },
+            3,
+            "",
+            missing,
+        ),
+        (
+            Setting {
+                shelf_fails: 1,
+                ..PLAIN
+            },
+            3,
+            "",
+            unread,
+        ),
+        (
+            Setting {
+                shelf_fails: 2,
+                ..PLAIN
+            },
+            3,
+            "",
+            unread,
+        ),
+        (
+            Setting {
+                shelf_fails: 4,
+                ..PLAIN
+            },
+            0,
+            FIRST_TEXT,
+            "",
+        ),
+        (
+            Setting {
+                out_fails: 1,
+                ..PLAIN
+            },
+            4,
+            "",
+            "",
+        ),
+        (
+            Setting {
+                out_room: 10,
+                ..PLAIN
+            },
+            4,
+            "file first",
+            "",
+        ),
+        (
+            Setting {
+                shelf_fails: 1,
+                err_fails: 1,
+                ..PLAIN
+            },
+            4,
+            "",
+            "",
+        ),
+        (
+            Setting {
+                words: &[],
+                ..PLAIN
+            },
+            2,
+            "",
+            USAGE,
+        ),
+        (
+            Setting {
+                words: &["analyse"],
+                ..PLAIN
+            },
+            2,
+            "",
+            USAGE,
+        ),
+        (
+            Setting {
+                words: &["analyse", "-x"],
+                ..PLAIN
+            },
+            2,
+            "",
+            USAGE,
+        ),
+        (
+            Setting {
+                words: &[],
+                err_fails: 2,
+                ..PLAIN
+            },
+            4,
+            "",
+            "usage: ",
+        ),
     ];
     for (setting, number, out, err) in cases {
-        let outcome = outcome(rt.alloc(), &setting)?;
+        let outcome = answer_to(rt.alloc(), &setting)?;
         assert_eq!(rt; number_of(&outcome.status), number);
         assert_eq!(rt; outcome.out.bytes(), out.as_bytes());
         assert_eq!(rt; outcome.err.bytes(), err.as_bytes());
@@ -141,7 +249,14 @@ fn sure_objects(rt: HostRuntime) -> Result<(), Fail> {
     let mut shelf = SureShelf::new(FIRST.as_bytes().to_vec(rt.alloc())?);
     let mut given = SureSource::new(Vec::new(rt.alloc()));
     let (mut out, mut err) = (SureSink::new(), SureSink::new());
-    let answer = top(rt.alloc(), &words, &mut shelf, &mut given, &mut out, &mut err);
+    let answer = top(
+        rt.alloc(),
+        &words,
+        &mut shelf,
+        &mut given,
+        &mut out,
+        &mut err,
+    );
     assert_eq!(rt; answer, Ok(Status::Done));
     Ok(())
 }
