@@ -1,0 +1,7 @@
+pub mod Analysis
+pub mod Grammar
+pub mod Lexemes
+pub mod Meaning
+pub mod Points
+pub mod Reading
+pub mod Text

@@ -1,0 +1,13 @@
+pub mod Actions
+pub mod Acts
+pub mod Chart
+pub mod Evaluation
+pub mod Finding
+pub mod Fits
+pub mod Flows
+pub mod Input
+pub mod Output
+pub mod Runs
+pub mod States
+pub mod Steps
+pub mod Storage
