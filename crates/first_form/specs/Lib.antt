@@ -3,5 +3,4 @@ pub mod Grammar
 pub mod Lexemes
 pub mod Meaning
 pub mod Points
-pub mod Reading
 pub mod Text

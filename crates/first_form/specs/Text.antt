@@ -1,15 +1,19 @@
 -- The text of a form, line by line, and what each line claims.
-use Rattle.std.specs.Prelude.{◌≡◌, ◌≢◌, ℕ, ◌+◌, List, [], ◌∷◌, ◌++◌, flat_map, slice_get, Option, Some, None, decimal, codes, if◌then◌else◌}
+use Rattle.std.specs.Prelude.{◌≡◌, ◌≢◌, ℕ, ◌+◌, List, [], ◌∷◌, ◌++◌, flat_map, zip, slice_get, Option, Some, None, decimal, codes, if◌then◌else◌}
 use Rattle.std.specs.Fmt.{signed_decimal}
+use Rattle.px_base.specs.declared.place.Pos.{Pos}
 use Rattle.pas_lexer.specs.Lexeme.{Text}
 use Rattle.interval.specs.declared.itv.Itv.{Itv}
 use Rattle.interval.specs.declared.val.Val.{Val}
 use Rattle.interval.specs.Intervals.{is_empty}
 use Rattle.interval.specs.Values.{Allows}
 use Rattle.first_form.specs.declared.form.Form.{Form}
+use Rattle.first_form.specs.declared.form.Statement.{Statement}
+use Rattle.first_form.specs.declared.form.Action.{Action}
+use Rattle.first_form.specs.declared.form.Action.TheVariants.{Read, Assign}
 use Rattle.first_form.specs.Points.{Stage, Entry, Before, AfterRead, Exit, Point}
 use Rattle.first_form.specs.Meaning.{Item, IsInput, State, state_at}
-use Rattle.first_form.specs.Analysis.{Environment, Row, table}
+use Rattle.first_form.specs.Analysis.{Environment, Row, after, table}
 
 -- ---- lines
 
@@ -45,9 +49,11 @@ word_text (AfterRead k) = codes "after read"
 word_text Exit = codes "exit"
 
 -- `point L:C WORD`
+abbrev pub label : Pos → Text → Text
+label place word = codes "point " ++ decimal place.line ++ codes ":" ++ decimal place.col ++ codes " " ++ word
+
 abbrev pub point_text : Point → Text
-point_text point =
-    codes "point " ++ decimal point.place.line ++ codes ":" ++ decimal point.place.col ++ codes " " ++ word_text point.stage
+point_text point = label point.place (word_text point.stage)
 
 -- `in LO..HI`
 abbrev pub bounds_text : Itv → Text
@@ -59,14 +65,39 @@ value_text value =
     if is_empty value.itv then codes "undefined"
     else (if value.undef then bounds_text value.itv ++ codes " or undefined" else bounds_text value.itv)
 
+abbrev pub variable_text : Text → Val → Text
+variable_text name value = codes "  " ++ name ++ codes " " ++ value_text value ++ codes "\n"
+
 abbrev pub line_text : Line → Text
 line_text (Reached point) = point_text point ++ codes "\n"
 line_text (NotReached point) = point_text point ++ codes " not reached\n"
-line_text (Holds point variable name value) = codes "  " ++ name ++ codes " " ++ value_text value ++ codes "\n"
+line_text (Holds point variable name value) = variable_text name value
 
 -- the whole text, under the name of the file
 abbrev pub text_of : Text → Form → Text
 text_of name form = codes "file " ++ name ++ codes "\n" ++ flat_map line_text (lines_of form)
+
+-- ---- the same by pieces, as they are written one after another
+
+abbrev pub variables_text : List Text → Environment → Text
+variables_text names environment = flat_map (λ pair. variable_text pair.0 pair.1) (zip names environment)
+
+abbrev pub block_text : List Text → Pos → Text → Option Environment → Text
+block_text names place word None = label place word ++ codes " not reached\n"
+block_text names place word (Some environment) = label place word ++ codes "\n" ++ variables_text names environment
+
+abbrev pub action_text : List Text → Action → Option Environment → Text
+action_text names (Read variable at) behind = block_text names at (codes "after read") behind
+action_text names (Assign variable value) behind = []
+
+abbrev pub statement_text : List Text → Option Environment → Statement → Text
+statement_text names environment statement =
+    block_text names statement.at (codes "before") environment ++ action_text names statement.action (after environment statement)
+
+abbrev pub statements_text : List Text → Option Environment → List Statement → Text
+statements_text names environment [] = []
+statements_text names environment (statement ∷ statements) =
+    statement_text names environment statement ++ statements_text names (after environment statement) statements
 
 -- ---- what they claim
 

@@ -1,9 +1,10 @@
 //! The meaning of the statements by intervals.
 
-ghost use Rattle.std.specs.Prelude.{◌≡◌};
-ghost use Rattle.interval.specs.Intervals.{numbers};
+ghost use Rattle.std.specs.Prelude.{◌≡◌, IfOk, slice_get};
+ghost use Rattle.interval.specs.Intervals.{empty, numbers};
+ghost use Rattle.first_form.specs.Analysis as spec;
 
-use crate::form::{Operand, Value};
+use crate::form::{Action, Operand, Statement, Value};
 use interval::{Itv, Val, binary};
 use sqlite_items::Items;
 use std::alloc::{AllocError, Global};
@@ -11,53 +12,90 @@ use std::alloc::{AllocError, Global};
 /// What the variables can hold, each by its number.
 pub type Environment = Items<Val>;
 
-/// All variables are undefined.
-pub fn at_entry(alloc: Global, variables: usize) -> Result<Environment, AllocError> {
-    let undefined = Val {
-        undef: true,
-        itv: Itv::EMPTY,
-    };
-    Ok(Items::from_vec(vec![in alloc; undefined; variables]?))
+/// No numbers.
+fn no_numbers() -> Itv
+    ensures { result ≡ empty }
+{
+    Itv::EMPTY
 }
 
 /// All numbers.
-pub fn whole_range() -> Itv
+fn all_numbers() -> Itv
     ensures { result ≡ numbers }
 {
     Itv::NUMBERS
 }
 
+/// All variables are undefined.
+pub fn at_entry(alloc: Global, variables: usize) -> Result<Environment, AllocError>
+    ensures { IfOk result (λ environment. environment ≡ spec.at_entry variables) }
+{
+    let undefined = Val {
+        undef: true,
+        itv: no_numbers(),
+    };
+    Ok(Items::from_vec(vec![in alloc; undefined; variables]?))
+}
+
+/// The numbers that a variable can hold.
+fn numbers_in(environment: &[Val], variable: u32) -> Itv
+    ensures { result ≡ spec.numbers_in (slice_get environment.now variable) }
+{
+    match environment.get(variable as usize) {
+        Some(value) => value.itv,
+        None => no_numbers(),
+    }
+}
+
 /// The numbers that an operand can be.
-fn numbers_of(environment: &[Val], operand: Operand) -> Itv {
+fn operand_numbers(environment: &[Val], operand: Operand) -> Itv
+    ensures { result ≡ spec.operand_numbers environment.now operand }
+{
     match operand {
-        Operand::Variable(variable) => match environment.get(variable as usize) {
-            Some(value) => value.itv,
-            None => Itv::EMPTY,
-        },
+        Operand::Variable(variable) => numbers_in(environment, variable),
         Operand::Number(number) => Itv::between(i64::from(number), i64::from(number)),
     }
 }
 
 /// The numbers that a value can be. It has none where a variable in it has none.
-pub fn evaluate(environment: &[Val], value: &Value) -> Itv {
-    let mut numbers = numbers_of(environment, value.first);
+fn evaluate(environment: &[Val], value: &Value) -> Itv
+    ensures { result ≡ spec.value_numbers environment.now value.now }
+{
+    let mut numbers = operand_numbers(environment, value.first);
     for term in value.terms.as_slice() {
-        numbers = binary(term.op, numbers, numbers_of(environment, term.operand)).value;
+        numbers = binary(term.op, numbers, operand_numbers(environment, term.operand)).value;
     }
     numbers
 }
 
 /// Sets a variable, which is then defined.
-pub fn set(mut environment: Environment, variable: u32, numbers: Itv) -> Environment {
+fn set(mut environment: Environment, variable: u32, numbers: Itv) -> Environment
+    ensures { result ≡ spec.set environment variable numbers }
+{
     let index = variable as usize;
     if index < environment.len() {
-        environment.set(
-            index,
-            Val {
-                undef: false,
-                itv: numbers,
-            },
-        );
+        let value = Val {
+            undef: false,
+            itv: numbers,
+        };
+        environment.set(index, value);
     }
     environment
+}
+
+/// The environment behind a statement, where runs come there.
+pub fn after(environment: Option<Environment>, statement: &Statement) -> Option<Environment>
+    ensures { result ≡ spec.after environment statement.now }
+{
+    let environment = environment?;
+    match &statement.action {
+        Action::Read { variable, .. } => Some(set(environment, *variable, all_numbers())),
+        Action::Assign { variable, value } => {
+            let numbers = evaluate(environment.as_slice(), value);
+            if numbers.is_empty() {
+                return None;
+            }
+            Some(set(environment, *variable, numbers))
+        }
+    }
 }

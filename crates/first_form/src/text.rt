@@ -1,6 +1,10 @@
 //! The text of a form: a block of lines for each of its points.
 
-use crate::analysis::{Environment, at_entry, evaluate, set, whole_range};
+ghost use Rattle.std.specs.Prelude.{◌≡◌, ◌++◌, OnOk, IfOk, codes, fold};
+ghost use Rattle.first_form.specs.Analysis.{after};
+ghost use Rattle.first_form.specs.Text as spec;
+
+use crate::analysis::{Environment, after, at_entry};
 use crate::form::{Action, Form, Statement};
 use interval::{Itv, Val};
 use itoa::Buffer;
@@ -8,36 +12,23 @@ use px_base::Pos;
 use sqlite_items::Items;
 use std::alloc::{AllocError, Global};
 
-/// What a point is, as the text says it.
-#[derive(Clone, Copy, Debug)]
-enum Word {
-    Entry,
-    Before,
-    AfterRead,
-    Exit,
-}
-
-fn word_text(word: Word) -> &'static [u8] {
-    match word {
-        Word::Entry => b"entry",
-        Word::Before => b"before",
-        Word::AfterRead => b"after read",
-        Word::Exit => b"exit",
-    }
-}
-
-/// The line that begins a block, without its end.
-fn append_point(text: &mut Vec<u8>, place: Pos, word: Word) -> Result<(), AllocError> {
+/// `point L:C WORD`
+fn append_label(text: &mut Vec<u8>, place: Pos, word: &[u8]) -> Result<(), AllocError>
+    ensures { OnOk result (text.new.items ≡ text.old.items ++ spec.label place word.now) }
+{
     let mut buffer = Buffer::new();
     text.extend_from_slice(b"point ")?;
     text.extend_from_slice(buffer.format(place.line).as_bytes())?;
     text.extend_from_slice(b":")?;
     text.extend_from_slice(buffer.format(place.col).as_bytes())?;
     text.extend_from_slice(b" ")?;
-    text.extend_from_slice(word_text(word))
+    text.extend_from_slice(word)
 }
 
-fn append_bounds(text: &mut Vec<u8>, itv: Itv) -> Result<(), AllocError> {
+/// `in LO..HI`
+fn append_bounds(text: &mut Vec<u8>, itv: Itv) -> Result<(), AllocError>
+    ensures { OnOk result (text.new.items ≡ text.old.items ++ spec.bounds_text itv) }
+{
     let mut buffer = Buffer::new();
     text.extend_from_slice(b"in ")?;
     text.extend_from_slice(buffer.format(itv.lo).as_bytes())?;
@@ -45,7 +36,10 @@ fn append_bounds(text: &mut Vec<u8>, itv: Itv) -> Result<(), AllocError> {
     text.extend_from_slice(buffer.format(itv.hi).as_bytes())
 }
 
-fn append_value(text: &mut Vec<u8>, value: Val) -> Result<(), AllocError> {
+/// `in LO..HI`, `undefined`, or `in LO..HI or undefined`
+fn append_value(text: &mut Vec<u8>, value: Val) -> Result<(), AllocError>
+    ensures { OnOk result (text.new.items ≡ text.old.items ++ spec.value_text value) }
+{
     if value.itv.is_empty() {
         return text.extend_from_slice(b"undefined");
     }
@@ -57,7 +51,9 @@ fn append_value(text: &mut Vec<u8>, value: Val) -> Result<(), AllocError> {
 }
 
 /// The line of a variable.
-fn append_variable(text: &mut Vec<u8>, name: &[u8], value: Val) -> Result<(), AllocError> {
+fn append_variable(text: &mut Vec<u8>, name: &[u8], value: Val) -> Result<(), AllocError>
+    ensures { OnOk result (text.new.items ≡ text.old.items ++ spec.variable_text name.now value) }
+{
     text.extend_from_slice(b"  ")?;
     text.extend_from_slice(name)?;
     text.extend_from_slice(b" ")?;
@@ -65,27 +61,31 @@ fn append_variable(text: &mut Vec<u8>, name: &[u8], value: Val) -> Result<(), Al
     text.extend_from_slice(b"\n")
 }
 
-/// The lines of all variables.
+/// A line for each variable.
 fn append_variables(
     text: &mut Vec<u8>,
     names: &[Items<u8>],
     environment: &[Val],
-) -> Result<(), AllocError> {
+) -> Result<(), AllocError>
+    ensures { OnOk result (text.new.items ≡ text.old.items ++ spec.variables_text names.now environment.now) }
+{
     for (name, value) in names.iter().zip(environment) {
         append_variable(text, name.as_slice(), *value)?;
     }
     Ok(())
 }
 
-/// The block of a point.
+/// The lines of a point.
 fn append_block(
     text: &mut Vec<u8>,
-    place: Pos,
-    word: Word,
     names: &[Items<u8>],
+    place: Pos,
+    word: &[u8],
     environment: &Option<Environment>,
-) -> Result<(), AllocError> {
-    append_point(text, place, word)?;
+) -> Result<(), AllocError>
+    ensures { OnOk result (text.new.items ≡ text.old.items ++ spec.block_text names.now place word.now environment.now) }
+{
+    append_label(text, place, word)?;
     match environment {
         Some(environment) => {
             text.extend_from_slice(b"\n")?;
@@ -95,49 +95,60 @@ fn append_block(
     }
 }
 
-/// The environment behind a statement.
-fn after(environment: Option<Environment>, statement: &Statement) -> Option<Environment> {
-    let environment = environment?;
-    match &statement.action {
-        Action::Read { variable, .. } => Some(set(environment, *variable, whole_range())),
-        Action::Assign { variable, value } => {
-            let numbers = evaluate(environment.as_slice(), value);
-            if numbers.is_empty() {
-                return None;
-            }
-            Some(set(environment, *variable, numbers))
-        }
+/// The lines of the point behind an action, where it has one of its own there.
+fn append_behind(
+    text: &mut Vec<u8>,
+    names: &[Items<u8>],
+    action: &Action,
+    environment: &Option<Environment>,
+) -> Result<(), AllocError>
+    ensures { OnOk result (text.new.items ≡ text.old.items ++ spec.action_text names.now action.now environment.now) }
+{
+    match action {
+        Action::Read { at, .. } => append_block(text, names, *at, b"after read", environment),
+        Action::Assign { .. } => Ok(()),
     }
 }
 
-/// The block behind the action of a statement, where it has a point of its own there.
-fn append_after_read(
+/// The lines of the points of statements, and the environment behind the last of them.
+fn append_statements(
     text: &mut Vec<u8>,
-    statement: &Statement,
     names: &[Items<u8>],
-    environment: &Option<Environment>,
-) -> Result<(), AllocError> {
-    match statement.action {
-        Action::Read { at, .. } => append_block(text, at, Word::AfterRead, names, environment),
-        Action::Assign { .. } => Ok(()),
+    mut environment: Option<Environment>,
+    statements: &[Statement],
+) -> Result<Option<Environment>, AllocError>
+    ensures written { OnOk result (text.new.items ≡ text.old.items ++ spec.statements_text names.now environment statements.now) }
+    ensures behind { IfOk result (λ behind. behind ≡ fold after environment statements.now) }
+{
+    for statement in statements {
+        append_block(text, names, statement.at, b"before", &environment)?;
+        environment = after(environment, statement);
+        append_behind(text, names, &statement.action, &environment)?;
     }
+    Ok(environment)
+}
+
+/// The first line.
+fn file_line(alloc: Global, name: &str) -> Result<Vec<u8>, AllocError>
+    ensures { IfOk result (λ text. text.items ≡ codes "file " ++ name.now ++ codes "\n") }
+{
+    let mut text = Vec::from_slice(alloc, b"file ")?;
+    text.extend_from_slice(name.as_bytes())?;
+    text.extend_from_slice(b"\n")?;
+    Ok(text)
 }
 
 /// The text of a form, under the name of its file. It begins with the line `file NAME`. For each point there follows the
 /// line `point L:C WORD`, and one line for each variable with the numbers that it can hold there; where no run comes to
 /// the point, the one line `point L:C WORD not reached`.
-pub fn form_text(alloc: Global, name: &str, form: &Form) -> Result<Vec<u8>, AllocError> {
+pub fn form_text(alloc: Global, name: &str, form: &Form) -> Result<Vec<u8>, AllocError>
+    ensures text { IfOk result (λ bytes. bytes.items ≡ spec.text_of name.now form.now) }
+{
     let names = form.variables.as_slice();
-    let mut text = Vec::from_slice(alloc, b"file ")?;
-    text.extend_from_slice(name.as_bytes())?;
-    text.extend_from_slice(b"\n")?;
-    let mut environment = Some(at_entry(alloc, names.len())?);
-    append_block(&mut text, form.begin, Word::Entry, names, &environment)?;
-    for statement in form.statements.as_slice() {
-        append_block(&mut text, statement.at, Word::Before, names, &environment)?;
-        environment = after(environment, statement);
-        append_after_read(&mut text, statement, names, &environment)?;
-    }
-    append_block(&mut text, form.end, Word::Exit, names, &environment)?;
+    let mut text = file_line(alloc, name)?;
+    let entry = Some(at_entry(alloc, names.len())?);
+    append_block(&mut text, names, form.begin, b"entry", &entry)?;
+    let exit = append_statements(&mut text, names, entry, form.statements.as_slice())?;
+    append_block(&mut text, names, form.end, b"exit", &exit)?;
     Ok(text)
 }

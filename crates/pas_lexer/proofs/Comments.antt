@@ -1,10 +1,15 @@
 -- The comment at the front of a text.
-use Rattle.std.proofs.Common.{◌≡◌, ◌≢◌, ◌⊎◌, inl, inr, ℕ, zero, suc, ◌+◌, ◌<◌, ◌≤◌, false, ◌&&◌, ◌==◌, [], ◌∷◌, length, take, Some, None, refl, ap, sym, ◌∙◌, arith}
+use Rattle.std.proofs.Common.{◌≡◌, ◌≢◌, ◌⊎◌, inl, inr, ℕ, zero, suc, ◌+◌, ◌<◌, ◌≤◌, false, ◌&&◌, ◌==◌, [], ◌∷◌, length, take, Some, None, refl, ap, sym, ◌∙◌, arith, ◌-◌, Bool, true, Option, subst}
 use Rattle.std.proofs.lemmas.List.{get_or-take, length-take-le}
-use Rattle.std.proofs.lemmas.Bool.{and_parts, cases_Bool, cases_order, eqb-true, eq-eqb, false≢true}
+use Rattle.std.proofs.lemmas.Bool.{and_parts, cases_Bool, cases_order, eqb-true, eq-eqb, false≢true, cases_lt}
 use Rattle.std.specs.Prelude.{codes, slice_index}
-use Rattle.pas_lexer.specs.Lexeme.{Text, IsComment, Closes}
-use Rattle.pas_lexer.specs.Scan.{comment_end}
+use Rattle.pas_lexer.specs.Lexeme.{Text, IsComment, Closes, IsForm}
+use Rattle.pas_lexer.specs.Scan.{comment_end, comment, piece as piece_of}
+use Rattle.std.specs.Option.{option_map}
+use Rattle.pas_lexer.specs.Covering.{IsPiece, opens_comment}
+use Rattle.pas_lexer.specs.declared.piece.Piece.{Piece}
+use Rattle.pas_lexer.specs.declared.token.TokenKind.{TokenKind}
+use Rattle.pas_lexer.proofs.Forms.{no-separator, fits-none, form-of, kind_of, opens-plain, opens-parts, opens-outside, form-nonempty, piece-advances}
 
 pub closes-nothing : Closes [] → ⊥
 closes-nothing ([], inl e) = cc
@@ -201,3 +206,167 @@ comment-paren bytes len within comment = elim comment.opens [
       let same : take len bytes ≡ comment.rest = cc in
       close-in bytes comment.rest len within same comment.closes comment.first
 ]
+
+-- what opens a comment alone is no comment
+pub alone-no-comment : (b : ℕ) → IsComment (b ∷ []) → ⊥
+alone-no-comment b comment =
+    elim comment.opens [
+      | inl brace ↦
+          let whole : b ∷ [] ≡ 123 ∷ comment.rest = rw brace.0 at comment.whole in
+          let nothing : [] ≡ comment.rest = cc in
+          closes-nothing (subst (λ (t : Text). Closes t) (sym nothing) comment.closes)
+      | inr paren ↦ let whole : b ∷ [] ≡ 40 ∷ 42 ∷ comment.rest = rw paren at comment.whole in cc
+    ]
+
+-- ---- the piece
+
+comment-form : (inside : Bool) (bytes : Text) (other : Option TokenKind) (b : ℕ) → opens_comment inside (b ∷ bytes) ≡ true → IsForm inside other (b ∷ bytes) → IsComment (b ∷ bytes)
+comment-form inside bytes other b opens form =
+    let plain = opens-plain inside b bytes opens in
+    let is : kind_of inside (b ∷ bytes) ≡ None = rw (plain.no_letter, plain.no_separator, plain.no_digit, plain.no_quote, opens) refl in
+    elim (form-of inside other None (b ∷ bytes) form is) [
+      | inl separator ↦ absurd (no-separator b bytes plain separator)
+      | inr comment ↦ comment.1
+    ]
+
+-- a text that begins with a comment's opening mark, as the scan takes it apart
+record Opening (rest body : Text) (len : ℕ) : Type 0 where
+  pub is_comment : (m : ℕ) → FirstClose body m → IsComment (take (len + m) rest)
+  pub is_close : (m : ℕ) → len + m ≤ length rest → IsComment (take (len + m) rest) → FirstClose body m
+  pub none_short : (m : ℕ) → m < len → IsComment (take m rest) → ⊥
+  pub body_is : length rest ≡ len + length body
+
+brace-short : (bytes : Text) (m : ℕ) → m < 1 → IsComment (take m (123 ∷ bytes)) → ⊥
+brace-short bytes zero short comment = form-nonempty false None (inr (refl, comment))
+brace-short bytes (suc m) short comment = absurd (omega (arith, short))
+
+brace-opening : (bytes : Text) → slice_index bytes 0 ≢ 37 → Opening (123 ∷ bytes) bytes 1
+brace-opening bytes no_percent = record {
+  is_comment = λ m close. let e : 1 + m ≡ suc m = omega arith in rw e (brace-comment bytes m no_percent close);
+  is_close = λ m within comment. let e : 1 + m ≡ suc m = omega arith in comment-brace bytes m (omega (arith, within)) (rw e at comment);
+  none_short = brace-short bytes;
+  body_is = omega arith;
+}
+
+paren-short : (bytes : Text) (m : ℕ) → m < 2 → IsComment (take m (40 ∷ 42 ∷ bytes)) → ⊥
+paren-short bytes zero short comment = form-nonempty false None (inr (refl, comment))
+paren-short bytes (suc zero) short comment = alone-no-comment 40 comment
+paren-short bytes (suc (suc m)) short comment = absurd (omega (arith, short))
+
+paren-opening : (bytes : Text) → Opening (40 ∷ 42 ∷ bytes) bytes 2
+paren-opening bytes = record {
+  is_comment = λ m close. let e : 2 + m ≡ suc (suc m) = omega arith in rw e (paren-comment bytes m close);
+  is_close = λ m within comment. let e : 2 + m ≡ suc (suc m) = omega arith in comment-paren bytes m (omega (arith, within)) (rw e at comment);
+  none_short = paren-short bytes;
+  body_is = omega arith;
+}
+
+opens-taken : (inside : Bool) (b : ℕ) (bytes : Text) (m : ℕ) → opens_comment inside (b ∷ bytes) ≡ true → opens_comment inside (b ∷ take (suc m) bytes) ≡ true
+opens-taken inside b [] m opens = opens
+opens-taken inside b (c ∷ bytes) m opens = opens
+
+comment-longest : (inside : Bool) (b : ℕ) (bytes body : Text) (len m : ℕ) → Opening (b ∷ bytes) body len → 0 < len → opens_comment inside (b ∷ bytes) ≡ true → FirstClose body m
+    → (more : ℕ) (other : Option TokenKind) → len + m < more → more ≤ length (b ∷ bytes) → IsForm inside other (take more (b ∷ bytes)) → ⊥
+comment-longest inside b bytes body len m opening some opens close zero other less within form = absurd (omega (arith, less))
+comment-longest inside b bytes body len m opening some opens close (suc zero) other less within form = absurd (omega (arith, less, some))
+comment-longest inside b bytes body len m opening some opens close (suc (suc n)) other less within form =
+    let comment = comment-form inside (take (suc n) bytes) other b (opens-taken inside b bytes n opens) form in
+    let k = suc (suc n) - len in
+    let e : suc (suc n) ≡ len + k = omega (arith, less) in
+    let there : IsComment (take (len + k) (b ∷ bytes)) = subst (λ (j : ℕ). IsComment (take j (b ∷ bytes))) e comment in
+    let again = opening.is_close k (omega (arith, e, within)) there in
+    let same = one-close body m k close again in
+    absurd (omega (arith, same, e, less))
+
+comment-piece : (inside : Bool) (b : ℕ) (bytes body : Text) (len end : ℕ) → Opening (b ∷ bytes) body len → 0 < len → opens_comment inside (b ∷ bytes) ≡ true
+    → comment_end len body ≡ Some end → IsPiece inside (b ∷ bytes) None end
+comment-piece inside b bytes body len end opening some opens is =
+    let met = comment_end-met len end body is in
+    let close = met.close in
+    let piece : IsPiece inside (b ∷ bytes) None (len + met.len) = record {
+      within = omega (arith, opening.body_is, close.within);
+      form = inr (opens-outside inside (b ∷ bytes) opens, opening.is_comment met.len close);
+      longest = comment-longest inside b bytes body len met.len opening some opens close;
+      no_symbol = λ opens. refl;
+      no_larger = fits-none;
+    } in
+    rw met.is piece
+
+no-comment-piece : (inside : Bool) (b : ℕ) (bytes body : Text) (len : ℕ) (token : Option TokenKind) (n : ℕ) → Opening (b ∷ bytes) body len → opens_comment inside (b ∷ bytes) ≡ true
+    → comment_end len body ≡ None → IsPiece inside (b ∷ bytes) token n → ⊥
+no-comment-piece inside b bytes body len token zero opening opens is piece = absurd (omega (arith, piece-advances inside (b ∷ bytes) token zero piece))
+no-comment-piece inside b bytes body len token (suc n) opening opens is piece =
+    let form = subst (λ (t : Option TokenKind). IsForm inside t (b ∷ take n bytes)) (piece.no_symbol opens) piece.form in
+    elim form [
+      | inl separator ↦ no-separator b (take n bytes) (opens-plain inside b bytes opens) separator
+      | inr comment ↦ elim (cases_lt (suc n) len) [
+        | inl short ↦ opening.none_short (suc n) short comment.1
+        | inr long ↦
+            let k = suc n - len in
+            let e : suc n ≡ len + k = omega (arith, long) in
+            let within = piece.within in
+            let there : IsComment (take (len + k) (b ∷ bytes)) = subst (λ (j : ℕ). IsComment (take j (b ∷ bytes))) e comment.1 in
+            comment_end-none len k body is (opening.is_close k (omega (arith, e, within)) there).closes
+      ]
+    ]
+
+mapped : (end : Option ℕ) (piece : Piece) → option_map (λ len. piece_of None len) end ≡ Some piece → (len : ℕ) × (end ≡ Some len) × (piece_of None len ≡ piece)
+mapped None piece e = cc
+mapped (Some len) piece e = (len, refl, cc)
+
+unmapped : (end : Option ℕ) → option_map (λ len. piece_of None len) end ≡ None → end ≡ None
+unmapped None e = refl
+unmapped (Some len) e = cc
+
+found-brace : (inside : Bool) (bytes : Text) (piece : Piece) → slice_index bytes 0 ≢ 37 → opens_comment inside (123 ∷ bytes) ≡ true → comment (123 ∷ bytes) ≡ Some piece
+    → IsPiece inside (123 ∷ bytes) piece.token piece.len
+unfolding comment
+found-brace inside bytes piece no_percent opens is =
+    let end = mapped (comment_end 1 bytes) piece is in
+    subst (λ (p : Piece). IsPiece inside (123 ∷ bytes) p.token p.len) end.2
+    (comment-piece inside 123 bytes bytes 1 end.0 (brace-opening bytes no_percent) (omega arith) opens end.1)
+
+found-paren : (inside : Bool) (bytes : Text) (piece : Piece) → opens_comment inside (40 ∷ 42 ∷ bytes) ≡ true → comment (40 ∷ 42 ∷ bytes) ≡ Some piece
+    → IsPiece inside (40 ∷ 42 ∷ bytes) piece.token piece.len
+unfolding comment
+found-paren inside bytes piece opens is =
+    let end = mapped (comment_end 2 bytes) piece is in
+    subst (λ (p : Piece). IsPiece inside (40 ∷ 42 ∷ bytes) p.token p.len) end.2
+    (comment-piece inside 40 (42 ∷ bytes) bytes 2 end.0 (paren-opening bytes) (omega arith) opens end.1)
+
+missed-brace : (inside : Bool) (bytes : Text) (token : Option TokenKind) (len : ℕ) → slice_index bytes 0 ≢ 37 → opens_comment inside (123 ∷ bytes) ≡ true → comment (123 ∷ bytes) ≡ None
+    → IsPiece inside (123 ∷ bytes) token len → ⊥
+unfolding comment
+missed-brace inside bytes token len no_percent opens is =
+    no-comment-piece inside 123 bytes bytes 1 token len (brace-opening bytes no_percent) opens (unmapped (comment_end 1 bytes) is)
+
+missed-paren : (inside : Bool) (bytes : Text) (token : Option TokenKind) (len : ℕ) → opens_comment inside (40 ∷ 42 ∷ bytes) ≡ true → comment (40 ∷ 42 ∷ bytes) ≡ None
+    → IsPiece inside (40 ∷ 42 ∷ bytes) token len → ⊥
+unfolding comment
+missed-paren inside bytes token len opens is =
+    no-comment-piece inside 40 (42 ∷ bytes) bytes 2 token len (paren-opening bytes) opens (unmapped (comment_end 2 bytes) is)
+
+-- the two ways in which a comment opens
+by-opening : (P : Text → Type 0) (b : ℕ) (bytes : Text) → opens_comment false (b ∷ bytes) ≡ true → ((rest : Text) → slice_index rest 0 ≢ 37 → P (123 ∷ rest))
+    → ((rest : Text) → P (40 ∷ 42 ∷ rest)) → P (b ∷ bytes)
+by-opening P b [] opens brace paren =
+    elim (opens-parts b [] opens) [
+      | inl opened ↦ rw opened.0 (brace [] opened.1)
+      | inr opened ↦ absurd (omega (arith, opened.1))
+    ]
+by-opening P b (c ∷ bytes) opens brace paren =
+    elim (opens-parts b (c ∷ bytes) opens) [
+      | inl opened ↦ rw opened.0 (brace (c ∷ bytes) opened.1)
+      | inr opened ↦ rw (opened.0, opened.1) (paren bytes)
+    ]
+
+pub found-comment : (b : ℕ) (bytes : Text) (piece : Piece) → opens_comment false (b ∷ bytes) ≡ true → comment (b ∷ bytes) ≡ Some piece → IsPiece false (b ∷ bytes) piece.token piece.len
+found-comment b bytes piece opens =
+    by-opening (λ rest. opens_comment false rest ≡ true → comment rest ≡ Some piece → IsPiece false rest piece.token piece.len) b bytes opens
+    (λ rest no_percent. found-brace false rest piece no_percent) (λ rest. found-paren false rest piece) opens
+
+pub missed-comment : (b : ℕ) (bytes : Text) (token : Option TokenKind) (len : ℕ) → opens_comment false (b ∷ bytes) ≡ true → comment (b ∷ bytes) ≡ None
+    → IsPiece false (b ∷ bytes) token len → ⊥
+missed-comment b bytes token len opens =
+    by-opening (λ rest. opens_comment false rest ≡ true → comment rest ≡ None → IsPiece false rest token len → ⊥) b bytes opens
+    (λ rest no_percent. missed-brace false rest token len no_percent) (λ rest. missed-paren false rest token len) opens

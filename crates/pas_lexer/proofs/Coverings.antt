@@ -80,7 +80,7 @@ one-length text place (x ∷ xs) (y ∷ ys) tx ty e =
 
 -- ---- so a text has one list of tokens or one fault
 
-same-covering : (text : Text) (xs ys : List Piece) → IsCovering text xs → IsCovering text ys → xs ≡ ys
+pub same-covering : (text : Text) (xs ys : List Piece) → IsCovering text xs → IsCovering text ys → xs ≡ ys
 same-covering text xs ys x y = one-covering text start xs ys x.0 y.0 x.1 y.1
 
 pub one-list : (text : Text) (ts us : List Token) → HasTokens text ts → HasTokens text us → ts ≡ us

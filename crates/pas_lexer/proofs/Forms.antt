@@ -5,12 +5,13 @@ use Rattle.std.proofs.lemmas.Bool.Decides.{nat_tests}
 use Rattle.std.proofs.lemmas.Slice.Eq.{bytes_eq-Decides}
 use Rattle.std.specs.Char.{is_ascii_alphabetic, is_ascii_digit}
 use Rattle.std.specs.List.{list_all}
-use Rattle.std.specs.Option.{option_map}
+use Rattle.std.specs.Option.{option_map, ForSome}
 use Rattle.std.specs.Prelude.{slice_index, codes}
 use Rattle.std.specs.Str.{bytes_eq}
 use Rattle.pas_lexer.specs.Covering.{IsPiece, opens_comment}
 use Rattle.pas_lexer.specs.Lexeme.{Text, IsForm, IsComment, IsSeparator, is_separator, quoted, decimal, lookup, symbols, symbol_of}
 use Rattle.pas_lexer.specs.Scan.{name_kind}
+use Rattle.pas_lexer.specs.Spans.{NumberFits}
 use Rattle.pas_lexer.specs.declared.token.Symbol.{Symbol}
 use Rattle.pas_lexer.specs.declared.token.TokenKind.{TokenKind}
 use Rattle.pas_lexer.specs.declared.token.TokenKind.TheVariants as kind
@@ -182,3 +183,15 @@ form-nonempty inside (Some kind.Query) form = let e : [] ≡ codes "?" = form.1 
 pub piece-advances : (inside : Bool) (rest : Text) (t : Option TokenKind) (n : ℕ) → IsPiece inside rest t n → 0 < n
 piece-advances inside rest t zero p = absurd (form-nonempty inside t p.form)
 piece-advances inside rest t (suc n) p = omega arith
+
+pub no-separator : (b : ℕ) (bytes : Text) → Plain b → IsSeparator (b ∷ bytes) → ⊥
+no-separator b [] plain separator = false≢true (sym plain.no_separator ∙ separator)
+no-separator b (c ∷ bytes) plain separator = separator
+
+-- ---- the limit of numbers
+
+pub fits-some : (token : TokenKind) → NumberFits token → ForSome (Some token) NumberFits
+fits-some token fits other is = let same : token ≡ other = cc in subst (λ (k : TokenKind). NumberFits k) same fits
+
+pub fits-none : ForSome None NumberFits
+fits-none other is = let no : None ≡ Some other = is in cc

@@ -4,6 +4,8 @@ pub mod Digits
 pub mod Forms
 pub mod Found
 pub mod Marks
+pub mod Names
+pub mod Numbers
 pub mod Reached
 pub mod Rising
 pub mod Strings

@@ -1,19 +1,19 @@
 -- Special symbols and the marks of assertions.
 use Rattle.std.proofs.Common.{◌≡◌, ◌≢◌, inl, inr, ℕ, zero, suc, ◌<◌, ◌≤◌, Bool, true, false, not, ◌&&◌, ◌==◌, [], ◌∷◌, length, take, Option, Some, None, refl, sym, ◌∙◌, arith, subst, rules}
 use Rattle.std.proofs.lemmas.Bool.{and_parts, cases_Bool, eqb-true, false≢true}
-use Rattle.std.specs.Option.{option_map, option_map_or, ForSome}
+use Rattle.std.specs.Option.{option_map, option_map_or}
 use Rattle.std.specs.Prelude.{slice_index, codes}
 use Rattle.std.specs.Str.{bytes_eq}
 use Rattle.pas_lexer.specs.Covering.{IsPiece, opens_comment}
-use Rattle.pas_lexer.specs.Lexeme.{Text, IsForm, IsComment, IsSeparator, Closes, symbol_of, symbols}
+use Rattle.pas_lexer.specs.Lexeme.{Text, IsForm, symbol_of, symbols}
 use Rattle.pas_lexer.specs.Scan.{mark, symbol, piece}
 use Rattle.pas_lexer.specs.Spans.{NumberFits}
 use Rattle.pas_lexer.specs.declared.piece.Piece.{Piece}
 use Rattle.pas_lexer.specs.declared.token.Symbol.{Symbol}
 use Rattle.pas_lexer.specs.declared.token.TokenKind.{TokenKind}
 use Rattle.pas_lexer.specs.declared.token.TokenKind.TheVariants as kind
-use Rattle.pas_lexer.proofs.Comments.{closes-nothing}
-use Rattle.pas_lexer.proofs.Forms.{mark_kind, kind_of, form-kind, form-of, found-row, bytes-same, Plain, comment-opens, piece-advances}
+use Rattle.pas_lexer.proofs.Comments.{alone-no-comment}
+use Rattle.pas_lexer.proofs.Forms.{no-separator, fits-some, mark_kind, kind_of, form-kind, form-of, found-row, bytes-same, Plain, comment-opens, piece-advances}
 
 -- ---- the scan takes a mark of two bytes, or else of one
 
@@ -122,10 +122,6 @@ mark-is inside bytes token is =
 
 -- ---- forms that no letter, digit, quote or comment begins are marks
 
-pub no-separator : (b : ℕ) (bytes : Text) → Plain b → IsSeparator (b ∷ bytes) → ⊥
-no-separator b [] plain separator = false≢true (sym plain.no_separator ∙ separator)
-no-separator b (c ∷ bytes) plain separator = separator
-
 form-mark : (inside : Bool) (b : ℕ) (bytes : Text) (other : Option TokenKind) → Plain b → opens_comment inside (b ∷ bytes) ≡ false → IsForm inside other (b ∷ bytes)
     → (token : TokenKind) × (mark_kind inside (b ∷ bytes) ≡ Some token)
 form-mark inside b bytes None plain no_comment form =
@@ -164,9 +160,6 @@ one-longest inside b (c ∷ bytes) plain no_comment none (suc (suc zero)) other 
 one-longest inside b (c ∷ []) plain no_comment none (suc (suc (suc m))) other less within form = absurd (omega (arith, within))
 one-longest inside b (c ∷ d ∷ bytes) plain no_comment none (suc (suc (suc m))) other less within form = too-long inside b c d (take m bytes) other plain no_comment form
 
-fits-token : (token : TokenKind) → NumberFits token → ForSome (Some token) NumberFits
-fits-token token fits other is = let same : token ≡ other = cc in subst (λ (k : TokenKind). NumberFits k) same fits
-
 two-piece : (inside : Bool) (b : ℕ) (bytes : Text) (token : TokenKind) → Plain b → opens_comment inside (b ∷ bytes) ≡ false
     → mark_kind inside (b ∷ slice_index bytes 0 ∷ []) ≡ Some token → IsPiece inside (b ∷ bytes) (Some token) 2
 two-piece inside b [] token plain no_comment is = absurd ((mark-is inside (b ∷ 0 ∷ []) token is).second refl refl)
@@ -177,7 +170,7 @@ two-piece inside b (c ∷ bytes) token plain no_comment is =
       form = mark.form;
       longest = two-longest inside b c bytes plain no_comment;
       no_symbol = λ opens. absurd (false≢true (sym no_comment ∙ opens));
-      no_larger = fits-token token mark.fits;
+      no_larger = fits-some token mark.fits;
     }
 
 one-piece : (inside : Bool) (b : ℕ) (bytes : Text) (token : TokenKind) → Plain b → opens_comment inside (b ∷ bytes) ≡ false
@@ -189,7 +182,7 @@ one-piece inside b bytes token plain no_comment none is =
       form = mark.form;
       longest = one-longest inside b bytes plain no_comment none;
       no_symbol = λ opens. absurd (false≢true (sym no_comment ∙ opens));
-      no_larger = fits-token token mark.fits;
+      no_larger = fits-some token mark.fits;
     }
 
 longer-piece : (inside : Bool) (b : ℕ) (bytes : Text) (found : Piece) (two one : Option TokenKind) → Plain b → opens_comment inside (b ∷ bytes) ≡ false
@@ -212,17 +205,6 @@ no-longer : (two one : Option TokenKind) → longer two one ≡ None → (two �
 no-longer None None e = (refl, refl)
 no-longer None (Some one) e = cc
 no-longer (Some two) one e = cc
-
--- what opens a comment alone is no comment
-pub alone-no-comment : (b : ℕ) → IsComment (b ∷ []) → ⊥
-alone-no-comment b comment =
-    elim comment.opens [
-      | inl brace ↦
-          let whole : b ∷ [] ≡ 123 ∷ comment.rest = rw brace.0 at comment.whole in
-          let nothing : [] ≡ comment.rest = cc in
-          closes-nothing (subst (λ (t : Text). Closes t) (sym nothing) comment.closes)
-      | inr paren ↦ let whole : b ∷ [] ≡ 40 ∷ 42 ∷ comment.rest = rw paren at comment.whole in cc
-    ]
 
 alone-no-form : (inside : Bool) (b : ℕ) (other : Option TokenKind) → Plain b → mark_kind inside (b ∷ []) ≡ None → IsForm inside other (b ∷ []) → ⊥
 alone-no-form inside b other plain none form =

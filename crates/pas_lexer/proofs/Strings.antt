@@ -1,10 +1,15 @@
 -- The string at the front of a text.
-use Rattle.std.proofs.Common.{◌≡◌, ◌⊎◌, inl, inr, ℕ, zero, suc, ◌+◌, ◌≤◌, Bool, true, false, not, ◌||◌, ◌==◌, cond, [], ◌∷◌, ◌++◌, length, take, refl, ap, arith}
-use Rattle.std.proofs.lemmas.Bool.{and_parts, cases_Bool, eqb-true, false≢true}
+use Rattle.std.proofs.Common.{◌≡◌, ◌⊎◌, inl, inr, ℕ, zero, suc, ◌+◌, ◌≤◌, Bool, true, false, not, ◌||◌, ◌==◌, cond, [], ◌∷◌, ◌++◌, length, take, refl, ap, arith, ◌≢◌, ◌<◌, Option, Some, None, sym, ◌∙◌, subst}
+use Rattle.std.proofs.lemmas.Bool.{and_parts, cases_Bool, eqb-true, false≢true, eq-eqb}
 use Rattle.std.specs.List.{list_all}
 use Rattle.std.specs.Prelude.{codes}
-use Rattle.pas_lexer.specs.Lexeme.{Text, IsString, is_line_end, doubled}
-use Rattle.pas_lexer.specs.Scan.{string_end}
+use Rattle.pas_lexer.specs.Lexeme.{Text, IsString, is_line_end, doubled, IsForm}
+use Rattle.pas_lexer.specs.Scan.{string_end, string, piece as piece_of}
+use Rattle.pas_lexer.specs.Covering.{IsPiece}
+use Rattle.pas_lexer.specs.declared.piece.Piece.{Piece}
+use Rattle.pas_lexer.specs.declared.token.TokenKind.{TokenKind}
+use Rattle.pas_lexer.specs.declared.token.TokenKind.TheVariants as kind
+use Rattle.pas_lexer.proofs.Forms.{fits-some, form-of, opens-plain, piece-advances}
 
 -- what follows the opening quote is a string up to its end; `after_quote` says that a quote was read that may be its end
 abbrev pub ends : Bool → Text → Bool
@@ -163,3 +168,63 @@ string_end-is true closed at (b ∷ bytes) =
       ])
       | inr other ↦ rw other (inl refl)
     ]
+
+-- ---- the piece
+
+string-form : (inside : Bool) (bytes : Text) (other : Option TokenKind) → IsForm inside other (39 ∷ bytes) → ends false bytes ≡ true
+string-form inside bytes other form = string-ends bytes (form-of inside other (Some kind.Text) (39 ∷ bytes) form refl)
+
+string-most : (inside : Bool) (bytes : Text) (more : ℕ) (other : Option TokenKind) → more ≤ length (39 ∷ bytes) → 0 < more → IsForm inside other (take more (39 ∷ bytes))
+    → more ≤ string_end false 0 1 bytes
+string-most inside bytes zero other within some form = absurd (omega (arith, some))
+string-most inside bytes (suc m) other within some form =
+    let most = string_end-most false 0 1 m bytes (omega arith) (λ no. absurd (false≢true no)) (omega (arith, within)) (string-form inside (take m bytes) other form) in
+    omega (arith, most)
+
+string-piece : (inside : Bool) (bytes : Text) (end : ℕ) → string_end false 0 1 bytes ≡ end → end ≢ 0 → IsPiece inside (39 ∷ bytes) (Some kind.Text) end
+string-piece inside bytes end is some =
+    elim (string_end-is false 0 1 bytes) [
+      | inl nothing ↦ absurd (some (sym is ∙ nothing))
+      | inr closed ↦
+          let e : end ≡ suc closed.len = omega (arith, is, closed.is) in
+          let within = closed.within in
+          record {
+            within = omega (arith, e, within);
+            form = rw e (ends-string (take closed.len bytes) closed.ends_there);
+            longest = λ more other less within form. let most = string-most inside bytes more other within (omega (arith, less)) form in absurd (omega (arith, most, less, is));
+            no_symbol = λ opens. absurd (false≢true (sym (opens-plain inside 39 bytes opens).no_quote));
+            no_larger = fits-some kind.Text tt;
+          }
+    ]
+
+found-string : (inside : Bool) (bytes : Text) (piece : Piece) → string (39 ∷ bytes) ≡ Some piece → IsPiece inside (39 ∷ bytes) piece.token piece.len
+unfolding string
+found-string inside bytes piece found =
+    let end = string_end false 0 1 bytes in
+    elim (cases_Bool (end == 0)) [
+      | inl nothing ↦ let is : None ≡ Some piece = rw nothing at found in cc
+      | inr some ↦
+          let is : Some (piece_of (Some kind.Text) end) ≡ Some piece = rw some at found in
+          let same : piece_of (Some kind.Text) end ≡ piece = cc in
+          let no_zero : end ≢ 0 = λ zero. false≢true (sym some ∙ eq-eqb end 0 zero) in
+          subst (λ (p : Piece). IsPiece inside (39 ∷ bytes) p.token p.len) same (string-piece inside bytes end refl no_zero)
+    ]
+
+missed-string : (inside : Bool) (bytes : Text) (token : Option TokenKind) (len : ℕ) → string (39 ∷ bytes) ≡ None → IsPiece inside (39 ∷ bytes) token len → ⊥
+unfolding string
+missed-string inside bytes token len none piece =
+    let end = string_end false 0 1 bytes in
+    let advances = piece-advances inside (39 ∷ bytes) token len piece in
+    let most = string-most inside bytes len token piece.within advances piece.form in
+    elim (cases_Bool (end == 0)) [
+      | inl nothing ↦ absurd (omega (arith, most, advances, eqb-true end 0 nothing))
+      | inr some ↦ let is : Some (piece_of (Some kind.Text) end) ≡ None = rw some at none in cc
+    ]
+
+pub found-quote : (inside : Bool) (b : ℕ) (bytes : Text) (piece : Piece) → b ≡ 39 → string (b ∷ bytes) ≡ Some piece → IsPiece inside (b ∷ bytes) piece.token piece.len
+found-quote inside b bytes piece quote =
+    subst (λ (c : ℕ). string (c ∷ bytes) ≡ Some piece → IsPiece inside (c ∷ bytes) piece.token piece.len) (sym quote) (found-string inside bytes piece)
+
+pub missed-quote : (inside : Bool) (b : ℕ) (bytes : Text) (token : Option TokenKind) (len : ℕ) → b ≡ 39 → string (b ∷ bytes) ≡ None → IsPiece inside (b ∷ bytes) token len → ⊥
+missed-quote inside b bytes token len quote =
+    subst (λ (c : ℕ). string (c ∷ bytes) ≡ None → IsPiece inside (c ∷ bytes) token len → ⊥) (sym quote) (missed-string inside bytes token len)

@@ -13,3 +13,6 @@ pub use scan::lex;
 pub use token::{Symbol, Token, TokenKind};
 pub use uniqueness::a_text_has_one_covering;
 pub use word::Word;
+
+#[cfg(test)]
+mod tests;

@@ -1,3 +1,10 @@
+pub mod Advance
 pub mod Chain
+pub mod Counted
+pub mod Fitting
+pub mod Layers
 pub mod Levels
 pub mod Loops
+pub mod Rules
+pub mod Sound
+pub mod Whole
