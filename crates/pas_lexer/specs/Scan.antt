@@ -1,4 +1,4 @@
--- How the piece at the front of a text is found from its first byte on. `proofs/` says that it is the piece of `Covering`.
+-- How the piece at the front of a text is found from its first byte on. `proofs/Found.antt` proves that it is the piece of `Covering`.
 use Rattle.std.specs.Prelude.{ℕ, ◌+◌, Bool, false, not, ◌&&◌, ◌||◌, ◌==◌, nat_le, if◌then◌else◌, List, [], ◌∷◌, take, drop, slice_index, Option, Some, None}
 use Rattle.std.specs.Char.{is_ascii_alphabetic, is_ascii_digit}
 use Rattle.std.specs.List.{filter, prefix_len}

@@ -66,6 +66,11 @@ fn append(tokens: &mut Vec<Token>, token: Option<TokenKind>, span: Span) -> Resu
 }
 
 /// The tokens of a text of at most 1,048,576 bytes, in one pass.
+///
+/// # Errors
+///
+/// The first lexical fault of the text, where an assertion that is open at the end comes after all others; or
+/// `Memory`, which no clause ties to a text.
 pub fn lex(alloc: Global, text: &[u8]) -> Result<Vec<Token>, LexFault>
     requires { length text.now ≤ 1048576 }
     ensures tokens { IfOk result (λ tokens. HasTokens text.now tokens.items) }

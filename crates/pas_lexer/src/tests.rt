@@ -348,8 +348,3 @@ fn longest_texts(rt: HostRuntime) -> Result<(), Fail> {
     }
     Ok(())
 }
-
-#[test]
-fn a_token_is_small(rt: HostRuntime) {
-    assert!(rt; size_of::<Token>() <= 16);
-}
