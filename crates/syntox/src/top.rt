@@ -8,7 +8,7 @@ ghost use Rattle.syntox.specs.Command.{asked_file};
 
 use crate::command::{USAGE, asked_file};
 use crate::status::Status;
-use first_form::{FormFault, form_text, read_form};
+use first_form::{FormFault, each_line_is_true, form_text, read_form};
 use px_base::{Failed, ReadEnd, Shelf, Sink, Source, read_file, write_all};
 use std::alloc::{AllocError, Global};
 
@@ -57,6 +57,7 @@ fn report_on<O: Sink, E: Sink>(
 {
     match read_form(alloc, bytes) {
         Ok(form) => {
+            each_line_is_true();
             let text = form_text(alloc, file, &form)?;
             Ok(say(out, &text, Status::Done))
         }

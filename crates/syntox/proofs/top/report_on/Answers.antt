@@ -8,7 +8,7 @@ returns-in_ok-text-in-Ok-clause-answer g c =
     let text = c.in_ok-text-in-Ok.text.items in
     inl (record {
       text = text;
-      is_report = report_of_bytes c.args.file.now c.args.bytes.now text c.in-Ok.form c.requires c.in-Ok.ensures.form c.in_ok-text-in-Ok.ensures.text c.in_ok-text-in-Ok.ensures.is_true;
+      is_report = report_of_bytes c.args.file.now c.args.bytes.now text c.in-Ok.form c.requires c.in-Ok.ensures.form c.in_ok-text-in-Ok.ensures.text (c.each_line_is_true.ensures c.args.bytes.now c.in-Ok.form c.in-Ok.ensures.form);
       says = says_same Done _ _ c.deref.result.now text c.say.result c.deref.ensures.value c.say.ensures;
       err_kept = refl;
     })

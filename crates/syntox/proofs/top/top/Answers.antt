@@ -55,4 +55,4 @@ returns-in_default-clause-write_fault g c = λ e.
     } in
     let same : c.say.result ≡ WriteFault = cc in
     usage_cut words (g.P.Shelf.file c.args.shelf.now) (g.P.Shelf.faults c.args.shelf.now) (g.P.Shelf.faults c.args.shelf.now) sinks asks c.say.result
-        (says_same Usage sinks.err_before sinks.err_after c.as_bytes.result.now usage_line c.say.result c.as_bytes.ensures.value c.say.ensures) refl same
+    (says_same Usage sinks.err_before sinks.err_after c.as_bytes.result.now usage_line c.say.result c.as_bytes.ensures.value c.say.ensures) refl same
