@@ -1,6 +1,6 @@
 -- Where the constructs of a tree begin, in the order in which the grammar writes them. Constructs that begin with one
 -- token stand in the list once.
-use Rattle.std.specs.Prelude.{ℕ, ◌+◌, ◌≤◌, Bool, true, false, if◌then◌else◌, List, [], ◌∷◌, ◌++◌, map, Option, Some, None}
+use Rattle.std.specs.Prelude.{ℕ, ◌+◌, ◌≤◌, Bool, true, false, List, [], ◌∷◌, ◌++◌, map, Option, Some, None}
 use Rattle.px_base.specs.declared.place.Span.{Span}
 use Rattle.pas_tree.specs.declared.block.Block.{Block}
 use Rattle.pas_tree.specs.declared.block.ConstDecl.{ConstDecl}
