@@ -48,7 +48,7 @@ fn root(n: u32) -> u32
     with_digit(n, root, 2) as u32
 }
 
-/// The root of `n` lies from `root` on and less than `width` above; answers in which half.
+/// Where the whole root of `n` lies from `root` on and less than `width` above it: the start of the half in which it lies.
 #[inline(always)]
 fn with_digit(n: u64, root: u64, width: u64) -> u64
     requires even { width ≡ 2 * (width / 2) }

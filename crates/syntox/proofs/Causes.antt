@@ -78,9 +78,9 @@ examined file bytes given told before after sinks result read same is = if_ok (�
 -- ---- what an answer says
 
 -- words that were read at another place
-pub asked : {A : Type 0} (of : A → List ℕ) (words given : List A) (found : Option (List ℕ)) → given ≡ words
+pub asked_at : {A : Type 0} (of : A → List ℕ) (words given : List A) (found : Option (List ℕ)) → given ≡ words
     → found ≡ asked_file (map of given) → asked_file (map of words) ≡ found
-asked of words given found same is = sym (subst (λ ws. found ≡ asked_file (map of ws)) same is)
+asked_at of words given found same is = sym (subst (λ ws. found ≡ asked_file (map of ws)) same is)
 
 -- ---- sinks
 
@@ -116,24 +116,24 @@ answer P result a e is = subst (λ r. IfOk r P) e is
 
 -- ---- clause by clause, where the words ask for the analysis of a file
 
-module _ (words : List (List ℕ)) (told : List ℕ → Option (Option (List ℕ))) (before after : ℕ) (sinks : Sinks) (file : List ℕ) (asks : asked_file words ≡ Some file) where
+module _ (asked : Option (List ℕ)) (told : List ℕ → Option (Option (List ℕ))) (before after : ℕ) (sinks : Sinks) (file : List ℕ) (asks : asked ≡ Some file) where
   module _ (result : Result Status AllocError) (is : IfOk result (λ status. Analyses file (told file) before after sinks status)) where
-    pub read_fault : result ≡ Ok ReadFault → ForAsked words (λ file. Rose before after × Adds sinks.err_before.taken sinks.err_after.taken (unreadable_line file))
+    pub read_fault : result ≡ Ok ReadFault → ForAsked asked (λ file. Rose before after × Adds sinks.err_before.taken sinks.err_after.taken (unreadable_line file))
     read_fault e =
         let r = missing file (told file) before after sinks (answer _ result ReadFault e is) in
         (file, asks, (r.0, said ReadFault sinks.err_before sinks.err_after (unreadable_line file) ReadFault (λ x. grind arith) r.1.says))
 
-    pub write_fault : result ≡ Ok WriteFault → CutsReport words told sinks ⊎ CutsLine words told before after sinks
-    write_fault e = elim (answer (λ status. Analyses file (told file) before after sinks status) result WriteFault e is) as (λ _. CutsReport words told sinks ⊎ CutsLine words told before after sinks) [
+    pub write_fault : result ≡ Ok WriteFault → CutsReport asked told sinks ⊎ CutsLine asked told before after sinks
+    write_fault e = elim (answer (λ status. Analyses file (told file) before after sinks status) result WriteFault e is) as (λ _. CutsReport asked told sinks ⊎ CutsLine asked told before after sinks) [
       | inl (inl r) ↦ let c = cut Done sinks.out_before sinks.out_after r.text (λ x. grind arith) r.says in
-          inl (record { rose = c.0; file = file; asked = asks; text = r.text; is_report = r.is_report; prefix = c.1; err_kept = r.err_kept })
+          inl (record { rose = c.0; file = file; is_asked = asks; text = r.text; is_report = r.is_report; prefix = c.1; err_kept = r.err_kept })
       | inl (inr (none, r)) ↦ let c = cut Refused sinks.err_before sinks.err_after (refusal_line file) (λ x. grind arith) r.says in
           inr (record { rose = c.0; line = refusal_line file; is_complaint = answers.refused file asks none; prefix = c.1; out_kept = r.out_kept })
       | inr (rose, r) ↦ let c = cut ReadFault sinks.err_before sinks.err_after (unreadable_line file) (λ x. grind arith) r.says in
           inr (record { rose = c.0; line = unreadable_line file; is_complaint = answers.unreadable file asks rose; prefix = c.1; out_kept = r.out_kept })
     ]
 
-    pub complete : (other bytes : List ℕ) (form : Form) → asked_file words ≡ Some other → told other ≡ Some (Some bytes) → HasForm bytes form
+    pub complete : (other bytes : List ℕ) (form : Form) → asked ≡ Some other → told other ≡ Some (Some bytes) → HasForm bytes form
         → ¬ Rose before after → ¬ Rose sinks.out_before.faults sinks.out_after.faults → IfOk result (λ status. status ≡ Done)
     complete other bytes form asks_other tells has calm still =
         let same : other ≡ file = grind arith in
@@ -142,9 +142,9 @@ module _ (words : List (List ℕ)) (told : List ℕ → Option (Option (List ℕ
 
 -- ---- and where they ask for nothing that is served
 
-module _ (words : List (List ℕ)) (told : List ℕ → Option (Option (List ℕ))) (before after : ℕ) (sinks : Sinks) (asks : asked_file words ≡ None) where
+module _ (asked : Option (List ℕ)) (told : List ℕ → Option (Option (List ℕ))) (before after : ℕ) (sinks : Sinks) (asks : asked ≡ None) where
   module _ (status : Status) (says : Says Usage sinks.err_before sinks.err_after usage_line status) (kept : sinks.out_after ≡ sinks.out_before) where
-    pub usage_cut : status ≡ WriteFault → CutsReport words told sinks ⊎ CutsLine words told before after sinks
+    pub usage_cut : status ≡ WriteFault → CutsReport asked told sinks ⊎ CutsLine asked told before after sinks
     usage_cut e =
         let c = cut Usage sinks.err_before sinks.err_after usage_line (λ x. grind arith) (subst (λ s. Says Usage sinks.err_before sinks.err_after usage_line s) e says) in
         inr (record { rose = c.0; line = usage_line; is_complaint = answers.usage asks; prefix = c.1; out_kept = kept })

@@ -7,7 +7,6 @@ use Rattle.px_base.specs.Faults.{Rose}
 use Rattle.first_form.specs.Grammar.{IsFormOf}
 use Rattle.first_form.specs.Text.{IsLineTrue, lines_of, text_of}
 use Rattle.first_form.specs.declared.form.Form.{Form}
-use Rattle.syntox.specs.Command.{asked_file}
 use Rattle.syntox.specs.declared.status.Status.{Status}
 use Rattle.syntox.specs.declared.status.Status.TheVariants.{Done, Refused, ReadFault, WriteFault}
 
@@ -68,6 +67,14 @@ pub record Sinks : Type 0 where
   pub err_before : Moment
   pub err_after : Moment
 
+abbrev pub sinks : Moment → Moment → Moment → Moment → Sinks
+sinks out_before out_after err_before err_after = record {
+  out_before = out_before;
+  out_after = out_after;
+  err_before = err_before;
+  err_after = err_after;
+}
+
 -- The report goes to `out`.
 pub record Reports (file : List ℕ) (told : Option (Option (List ℕ))) (sinks : Sinks) (status : Status) : Type 0 where
   pub text : List ℕ
@@ -92,29 +99,29 @@ Analyses file told faults_before faults_after sinks status =
     ⊎ (Rose faults_before faults_after × Complains (unreadable_line file) ReadFault sinks status)
 
 -- the words ask for the analysis of a file, and this holds of its name
-abbrev pub ForAsked : List (List ℕ) → (List ℕ → Type 0) → Type 0
-ForAsked words P = (file : List ℕ) × (asked_file words ≡ Some file) × P file
+abbrev pub ForAsked : Option (List ℕ) → (List ℕ → Type 0) → Type 0
+ForAsked asked P = (file : List ℕ) × (asked ≡ Some file) × P file
 
 -- The line says why there is no report. `told` is what the shelf tells of each file.
-pub data IsComplaint (words : List (List ℕ)) (told : List ℕ → Option (Option (List ℕ))) (before after : ℕ) : List ℕ → Type 0 where
-  usage : asked_file words ≡ None → IsComplaint words told before after usage_line
-  unreadable : (file : List ℕ) → asked_file words ≡ Some file → Rose before after → IsComplaint words told before after (unreadable_line file)
-  refused : (file : List ℕ) → asked_file words ≡ Some file → HasNoForm (told file) → IsComplaint words told before after (refusal_line file)
+pub data IsComplaint (asked : Option (List ℕ)) (told : List ℕ → Option (Option (List ℕ))) (before after : ℕ) : List ℕ → Type 0 where
+  usage : asked ≡ None → IsComplaint asked told before after usage_line
+  unreadable : (file : List ℕ) → asked ≡ Some file → Rose before after → IsComplaint asked told before after (unreadable_line file)
+  refused : (file : List ℕ) → asked ≡ Some file → HasNoForm (told file) → IsComplaint asked told before after (refusal_line file)
 
 -- `out` failed while it took the report, and has a prefix of it.
-pub record CutsReport (words : List (List ℕ)) (told : List ℕ → Option (Option (List ℕ))) (sinks : Sinks) : Type 0 where
+pub record CutsReport (asked : Option (List ℕ)) (told : List ℕ → Option (Option (List ℕ))) (sinks : Sinks) : Type 0 where
   pub rose : Rose sinks.out_before.faults sinks.out_after.faults
   pub file : List ℕ
-  pub asked : asked_file words ≡ Some file
+  pub is_asked : asked ≡ Some file
   pub text : List ℕ
   pub is_report : IsReport file (told file) text
   pub prefix : AddsPrefix sinks.out_before.taken sinks.out_after.taken text
   pub err_kept : sinks.err_after ≡ sinks.err_before
 
 -- `err` failed while it took the line, and has a prefix of it.
-pub record CutsLine (words : List (List ℕ)) (told : List ℕ → Option (Option (List ℕ))) (before after : ℕ) (sinks : Sinks) : Type 0 where
+pub record CutsLine (asked : Option (List ℕ)) (told : List ℕ → Option (Option (List ℕ))) (before after : ℕ) (sinks : Sinks) : Type 0 where
   pub rose : Rose sinks.err_before.faults sinks.err_after.faults
   pub line : List ℕ
-  pub is_complaint : IsComplaint words told before after line
+  pub is_complaint : IsComplaint asked told before after line
   pub prefix : AddsPrefix sinks.err_before.taken sinks.err_after.taken line
   pub out_kept : sinks.out_after ≡ sinks.out_before

@@ -1,10 +1,10 @@
 //! All that the program does, over any shelf, source and sinks.
-ghost use Rattle.std.specs.Prelude.{◌≡◌, ◌≢◌, ◌⊎◌, ◌≤◌, ℕ, List, length, Ok, Some, None, map, string_bytes, IfOk, OnErr};
+ghost use Rattle.std.specs.Prelude.{◌≡◌, ◌≢◌, ◌⊎◌, ◌≤◌, ℕ, List, length, Ok, Some, None, IfOk, OnErr};
 ghost use Rattle.px_base.specs.Bytes.{Adds, AddsPrefix};
 ghost use Rattle.px_base.specs.Faults.{Rose};
 ghost use Rattle.first_form.specs.declared.form.Form.{Form};
-ghost use Rattle.syntox.specs.Answers.{CutsLine, CutsReport, ForAsked, HasForm, HasNoForm, IsReport, Says, Examines, Analyses, at, max_source, refusal_line, unreadable_line, usage_line};
-ghost use Rattle.syntox.specs.Command.{asked_file};
+ghost use Rattle.syntox.specs.Answers.{CutsLine, CutsReport, ForAsked, HasForm, HasNoForm, IsReport, Says, Examines, Analyses, at, sinks, max_source, refusal_line, unreadable_line, usage_line};
+ghost use Rattle.syntox.specs.Command.{asked};
 
 use crate::command::{USAGE, asked_file};
 use crate::status::Status;
@@ -27,7 +27,8 @@ fn say<W: Sink>(sink: &mut W, text: &[u8], meant: Status) -> Status
 
 /// Tells that the file isn't of the first form.
 fn refuse<E: Sink>(alloc: Global, file: &str, err: &mut E) -> Result<Status, AllocError>
-    ensures refused { IfOk result (λ status. Says Status.Refused (at (E.taken err.old) (E.faults err.old)) (at (E.taken err.new) (E.faults err.new)) (refusal_line file.now) status) }
+    ensures refused { IfOk result (λ status.
+        Says Status.Refused (at (E.taken err.old) (E.faults err.old)) (at (E.taken err.new) (E.faults err.new)) (refusal_line file.now) status) }
     ensures untouched { OnErr result (err.new ≡ err.old) }
 {
     let line = format!(in alloc; "{file}: not of the first form\n")?;
@@ -36,7 +37,8 @@ fn refuse<E: Sink>(alloc: Global, file: &str, err: &mut E) -> Result<Status, All
 
 /// Tells that the file cannot be read.
 fn miss<E: Sink>(alloc: Global, file: &str, err: &mut E) -> Result<Status, AllocError>
-    ensures missed { IfOk result (λ status. Says Status.ReadFault (at (E.taken err.old) (E.faults err.old)) (at (E.taken err.new) (E.faults err.new)) (unreadable_line file.now) status) }
+    ensures missed { IfOk result (λ status.
+        Says Status.ReadFault (at (E.taken err.old) (E.faults err.old)) (at (E.taken err.new) (E.faults err.new)) (unreadable_line file.now) status) }
     ensures untouched { OnErr result (err.new ≡ err.old) }
 {
     let line = format!(in alloc; "{file}: cannot be read\n")?;
@@ -52,7 +54,10 @@ fn report_on<O: Sink, E: Sink>(
     err: &mut E,
 ) -> Result<Status, AllocError>
     requires { length bytes.now ≤ max_source }
-    ensures answer { IfOk result (λ status. Examines file.now (Some (Some bytes.now)) (record { out_before = at (O.taken out.old) (O.faults out.old); out_after = at (O.taken out.new) (O.faults out.new); err_before = at (E.taken err.old) (E.faults err.old); err_after = at (E.taken err.new) (E.faults err.new) }) status) }
+    ensures answer { IfOk result (λ status.
+        Examines file.now (Some (Some bytes.now)) (sinks
+        (at (O.taken out.old) (O.faults out.old)) (at (O.taken out.new) (O.faults out.new))
+        (at (E.taken err.old) (E.faults err.old)) (at (E.taken err.new) (E.faults err.new))) status) }
     ensures untouched { OnErr result ((out.new ≡ out.old) × (err.new ≡ err.old)) }
 {
     match read_form(alloc, bytes) {
@@ -75,7 +80,10 @@ fn analyse<P: Shelf, O: Sink, E: Sink>(
     err: &mut E,
 ) -> Result<Status, AllocError>
     requires { P.may_ask shelf.old file.now }
-    ensures answer { IfOk result (λ status. Analyses file.now (P.file shelf.old file.now) (P.faults shelf.old) (P.faults shelf.new) (record { out_before = at (O.taken out.old) (O.faults out.old); out_after = at (O.taken out.new) (O.faults out.new); err_before = at (E.taken err.old) (E.faults err.old); err_after = at (E.taken err.new) (E.faults err.new) }) status) }
+    ensures answer { IfOk result (λ status.
+        Analyses file.now (P.file shelf.old file.now) (P.faults shelf.old) (P.faults shelf.new) (sinks
+        (at (O.taken out.old) (O.faults out.old)) (at (O.taken out.new) (O.faults out.new))
+        (at (E.taken err.old) (E.faults err.old)) (at (E.taken err.new) (E.faults err.new))) status) }
     ensures untouched { OnErr result ((out.new ≡ out.old) × (err.new ≡ err.old)) }
 {
     match read_file(alloc, shelf, file, MAX_SOURCE) {
@@ -99,28 +107,32 @@ pub fn top<P: Shelf, D: Source, O: Sink, E: Sink>(
     out: &mut O,
     err: &mut E,
 ) -> Result<Status, AllocError>
-    requires may_ask { (file : List ℕ) → asked_file (map string_bytes words.now.items) ≡ Some file → P.may_ask shelf.old file }
+    requires may_ask { (file : List ℕ) → asked words.now ≡ Some file → P.may_ask shelf.old file }
 
     // The report is whole and true.
-    ensures done { result ≡ Ok Status.Done → ForAsked (map string_bytes words.now.items) (λ file. (text : List ℕ)
+    ensures done { result ≡ Ok Status.Done → ForAsked (asked words.now) (λ file. (text : List ℕ)
         × IsReport file (P.file shelf.old file) text × Adds (O.taken out.old) (O.taken out.new) text) }
 
     // Why there is none, and the line that says so.
-    ensures refused { result ≡ Ok Status.Refused → ForAsked (map string_bytes words.now.items) (λ file.
+    ensures refused { result ≡ Ok Status.Refused → ForAsked (asked words.now) (λ file.
         HasNoForm (P.file shelf.old file) × Adds (E.taken err.old) (E.taken err.new) (refusal_line file)) }
-    ensures read_fault { result ≡ Ok Status.ReadFault → ForAsked (map string_bytes words.now.items) (λ file.
+    ensures read_fault { result ≡ Ok Status.ReadFault → ForAsked (asked words.now) (λ file.
         Rose (P.faults shelf.old) (P.faults shelf.new) × Adds (E.taken err.old) (E.taken err.new) (unreadable_line file)) }
     ensures usage { result ≡ Ok Status.Usage →
-        (asked_file (map string_bytes words.now.items) ≡ None) × Adds (E.taken err.old) (E.taken err.new) usage_line }
+        (asked words.now ≡ None) × Adds (E.taken err.old) (E.taken err.new) usage_line }
 
     // A sink failed, and has a prefix of what was due to it.
     ensures write_fault { result ≡ Ok Status.WriteFault →
-        CutsReport (map string_bytes words.now.items) (P.file shelf.old) (record { out_before = at (O.taken out.old) (O.faults out.old); out_after = at (O.taken out.new) (O.faults out.new); err_before = at (E.taken err.old) (E.faults err.old); err_after = at (E.taken err.new) (E.faults err.new) })
-        ⊎ CutsLine (map string_bytes words.now.items) (P.file shelf.old) (P.faults shelf.old) (P.faults shelf.new) (record { out_before = at (O.taken out.old) (O.faults out.old); out_after = at (O.taken out.new) (O.faults out.new); err_before = at (E.taken err.old) (E.faults err.old); err_after = at (E.taken err.new) (E.faults err.new) }) }
+        CutsReport (asked words.now) (P.file shelf.old) (sinks
+        (at (O.taken out.old) (O.faults out.old)) (at (O.taken out.new) (O.faults out.new))
+        (at (E.taken err.old) (E.faults err.old)) (at (E.taken err.new) (E.faults err.new)))
+        ⊎ CutsLine (asked words.now) (P.file shelf.old) (P.faults shelf.old) (P.faults shelf.new) (sinks
+        (at (O.taken out.old) (O.faults out.old)) (at (O.taken out.new) (O.faults out.new))
+        (at (E.taken err.old) (E.faults err.old)) (at (E.taken err.new) (E.faults err.new))) }
 
     // Nothing else comes.
     ensures no_other { (result ≢ Ok Status.RunError) × (result ≢ Ok Status.OutOfSteps) × (result ≢ Ok Status.DataTooLarge) }
-    ensures complete { (file bytes : List ℕ) (form : Form) → asked_file (map string_bytes words.now.items) ≡ Some file → P.file shelf.old file ≡ Some (Some bytes)
+    ensures complete { (file bytes : List ℕ) (form : Form) → asked words.now ≡ Some file → P.file shelf.old file ≡ Some (Some bytes)
         → HasForm bytes form → ¬ Rose (P.faults shelf.old) (P.faults shelf.new) → ¬ Rose (O.faults out.old) (O.faults out.new)
         → IfOk result (λ status. status ≡ Status.Done) }
 
