@@ -1,3 +1,5 @@
+pub mod Adjacency
 pub mod Edges
 pub mod Order
 pub mod Parts
+pub mod Walk
