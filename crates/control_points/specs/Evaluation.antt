@@ -9,7 +9,7 @@ use Rattle.px_base.specs.declared.kind.Kind.TheVariants.{UndefinedValue, IndexOu
 use Rattle.pas_program.specs.declared.expr.Access.{Access}
 use Rattle.pas_program.specs.declared.expr.Actual.TheOpen.{Access-F, ExprForm-F, Expr-F}
 use Rattle.pas_program.specs.declared.expr.Actual.TheFolds.{fold-Access, fold-Expr}
-use Rattle.pas_program.specs.declared.expr.Actual.TheViews.{out-Expr}
+use Rattle.pas_program.specs.declared.expr.Actual.TheViews.{out-Access, out-Expr}
 use Rattle.pas_program.specs.declared.expr.Expr.{Expr}
 use Rattle.pas_program.specs.declared.type_def.TypeDef.{TypeDef}
 use Rattle.pas_program.specs.declared.type_def.TypeDef.TheVariants.{Scalar, Array}
@@ -85,6 +85,14 @@ subscript_values t n (s ∷ rest) =
 -- the type of a variable
 abbrev pub var_type : Tables → ℕ → ℕ
 var_type t v = unwrap_or (option_map (λ (d : VarDef). d.of_type) (t.var_at v)) 0
+
+-- the type of the part of a variable of type n that subscripts lead to
+abbrev pub part_type : Tables → ℕ → List Expr → ℕ
+part_type t n [] = n
+part_type t n (e ∷ subscripts) = part_type t (element_type (t.type_at n)) subscripts
+
+abbrev pub access_type : Tables → Access → ℕ
+access_type t a = part_type t (var_type t (out-Access a).var) (out-Access a).subscripts
 
 -- what a place holds, where that is used
 abbrev pub defined : ℕ → Option ℤ → Answer ℤ

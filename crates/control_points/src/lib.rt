@@ -13,6 +13,7 @@ mod edge;
 mod fault;
 mod flow;
 mod item;
+mod laws;
 mod point;
 
 pub use check::Check;
@@ -20,4 +21,5 @@ pub use edge::{Act, Edge};
 pub use fault::Fault;
 pub use flow::Flow;
 pub use item::Item;
+pub use laws::earlier_is_on_the_way;
 pub use point::{Point, PointKind};

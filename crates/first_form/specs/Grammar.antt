@@ -9,6 +9,7 @@
 -- A production relates a list of lexemes to the part of the form that it stands for.
 use Rattle.std.specs.Prelude.{◌≡◌, ◌≢◌, ◌⊎◌, ℕ, ◌≤◌, List, [], ◌∷◌, ◌++◌, length, slice_get, Some}
 use Rattle.std.specs.List.{AllPairs}
+use Rattle.px_base.specs.declared.place.Pos.{Pos}
 use Rattle.px_base.specs.declared.operator.BinOp.{BinOp}
 use Rattle.px_base.specs.declared.operator.BinOp.TheVariants.{Add, Sub}
 use Rattle.pas_lexer.specs.Lexeme.{Text}
@@ -98,12 +99,21 @@ module _ (text : Text) where
     IsValue [] value = ⊥
     IsValue (operand ∷ rest) value = IsOperand operand value.first × IsTerms rest value.terms
 
+    -- `"read" "(" ident ")"`, and the place of the identifier
+    abbrev pub IsRead : List Lexeme → ℕ → Pos → Type 0
+    IsRead (word ∷ open_paren ∷ ident ∷ close_paren ∷ []) variable at =
+        Is mark.Read word × Is mark.LeftParen open_paren × IsVariable ident variable × (ident.place ≡ at) × Is mark.RightParen close_paren
+    IsRead _ variable at = ⊥
+
+    -- `ident ":=" operand {("+" | "-") operand}`
+    abbrev pub IsAssignment : List Lexeme → ℕ → Value → Type 0
+    IsAssignment (ident ∷ assign ∷ rest) variable value = IsVariable ident variable × Is mark.Assign assign × IsValue rest value
+    IsAssignment _ variable value = ⊥
+
     -- `"read" "(" ident ")" | ident ":=" operand {("+" | "-") operand}`
     abbrev pub IsAction : List Lexeme → Action → Type 0
-    IsAction (word ∷ open_paren ∷ ident ∷ close_paren ∷ []) (Read variable at) =
-        Is mark.Read word × Is mark.LeftParen open_paren × IsVariable ident variable × (ident.place ≡ at) × Is mark.RightParen close_paren
-    IsAction (ident ∷ assign ∷ rest) (Assign variable value) = IsVariable ident variable × Is mark.Assign assign × IsValue rest value
-    IsAction _ _ = ⊥
+    IsAction lexemes (Read variable at) = IsRead lexemes variable at
+    IsAction lexemes (Assign variable value) = IsAssignment lexemes variable value
 
     -- a statement, which stands at its first lexeme
     abbrev pub IsStatement : List Lexeme → Statement → Type 0

@@ -1,11 +1,10 @@
-//! The tokens of a file as the grammar of the first form sees them.
+//! What a token is to the grammar of the first form.
 
-ghost use Rattle.std.specs.Prelude.{◌≡◌, ◌≤◌, ◌<◌, length};
+ghost use Rattle.std.specs.Prelude.{◌≡◌};
+ghost use Rattle.first_form.specs.Lexemes as spec;
 
-use crate::fault::FormFault;
-use pas_lexer::{Symbol, Token, TokenKind, Word};
+use pas_lexer::{Symbol, TokenKind, Word};
 use px_base::{Pos, Span};
-use std::alloc::Global;
 
 /// What a token is to the grammar.
 #[derive(Clone, Copy, Debug, PartialEq, Eq)]
@@ -45,7 +44,9 @@ pub struct Lexeme {
 }
 
 /// Whether the bytes are spelt like this, in letters of either case.
-pub fn is_spelt(bytes: &[u8], spelling: &[u8]) -> bool {
+pub fn is_spelt(bytes: &[u8], spelling: &[u8]) -> bool
+    ensures { result ≡ spec.is_spelt bytes.now spelling.now }
+{
     if bytes.len() != spelling.len() {
         return false;
     }
@@ -57,17 +58,21 @@ pub fn is_spelt(bytes: &[u8], spelling: &[u8]) -> bool {
     true
 }
 
-fn ident_mark(spelling: &[u8]) -> Mark {
-    if is_spelt(spelling, b"read") {
+fn ident_mark(bytes: &[u8]) -> Mark
+    ensures { result ≡ spec.ident_mark bytes.now }
+{
+    if is_spelt(bytes, b"read") {
         Mark::Read
-    } else if is_spelt(spelling, b"integer") {
+    } else if is_spelt(bytes, b"integer") {
         Mark::Integer
     } else {
         Mark::Name
     }
 }
 
-fn word_mark(word: Word) -> Mark {
+fn word_mark(word: Word) -> Mark
+    ensures { result ≡ spec.word_mark word }
+{
     match word {
         Word::WProgram => Mark::Program,
         Word::WVar => Mark::Var,
@@ -77,7 +82,9 @@ fn word_mark(word: Word) -> Mark {
     }
 }
 
-fn symbol_mark(symbol: Symbol) -> Mark {
+fn symbol_mark(symbol: Symbol) -> Mark
+    ensures { result ≡ spec.symbol_mark symbol }
+{
     match symbol {
         Symbol::Plus => Mark::Plus,
         Symbol::Minus => Mark::Minus,
@@ -92,9 +99,12 @@ fn symbol_mark(symbol: Symbol) -> Mark {
     }
 }
 
-fn mark_of(kind: TokenKind, spelling: &[u8]) -> Mark {
+/// What a token of this kind and with these bytes is.
+pub fn mark_of(kind: TokenKind, bytes: &[u8]) -> Mark
+    ensures { result ≡ spec.mark_of kind bytes.now }
+{
     match kind {
-        TokenKind::Ident => ident_mark(spelling),
+        TokenKind::Ident => ident_mark(bytes),
         TokenKind::Number(_) => Mark::Number,
         TokenKind::Word(word) => word_mark(word),
         TokenKind::Symbol(symbol) => symbol_mark(symbol),
@@ -102,63 +112,21 @@ fn mark_of(kind: TokenKind, spelling: &[u8]) -> Mark {
     }
 }
 
-fn value_of(kind: TokenKind) -> u32 {
+/// The value of a number, and 0 of anything else.
+pub fn value_of(kind: TokenKind) -> u32
+    ensures { result ≡ spec.value_of kind }
+{
     match kind {
         TokenKind::Number(value) => value,
         _ => 0,
     }
 }
 
-/// The place behind more bytes.
-fn place_behind(mut place: Pos, bytes: &[u8]) -> Pos {
-    for byte in bytes {
-        if *byte == b'\n' {
-            place = Pos {
-                line: place.line.saturating_add(1),
-                col: 1,
-            };
-        } else {
-            place.col = place.col.saturating_add(1);
-        }
-    }
-    place
-}
-
-fn is_separator(byte: u8) -> bool {
-    matches!(byte, b' ' | b'\t' | b'\r' | b'\n' | b'\x0c')
-}
-
-/// Whether separators alone stand between these bytes of a text.
-fn are_separators(bytes: &[u8]) -> bool {
-    bytes.iter().all(|byte| is_separator(*byte))
-}
-
-/// The tokens of a text as lexemes, where separators alone stand between them.
-pub fn lexemes_of(alloc: Global, text: &[u8], tokens: &[Token]) -> Result<Vec<Lexeme>, FormFault> {
-    let mut lexemes = Vec::with_capacity(alloc, tokens.len()).map_err(FormFault::Memory)?;
-    let mut place = Pos { line: 1, col: 1 };
-    let mut at = 0;
-    for token in tokens {
-        let (start, end) = (token.span.start as usize, token.span.end as usize);
-        if start < at || end < start || text.len() < end || !are_separators(&text[at..start]) {
-            return Err(FormFault::NotOfForm);
-        }
-        place = place_behind(place, &text[at..start]);
-        let lexeme = Lexeme {
-            mark: mark_of(token.kind, &text[start..end]),
-            value: value_of(token.kind),
-            span: token.span,
-            place,
-        };
-        lexemes
-            .push(lexeme)
-            .map_err(|failed| FormFault::Memory(failed.into()))?;
-        place = place_behind(place, &text[start..end]);
-        at = end;
-    }
-    if are_separators(&text[at..]) {
-        Ok(lexemes)
-    } else {
-        Err(FormFault::NotOfForm)
-    }
+/// The bytes of a span, as far as the text has them.
+pub fn bytes_of(text: &[u8], span: Span) -> &[u8]
+    ensures { result.now ≡ spec.bytes_of text.now span }
+{
+    let end = (span.end as usize).min(text.len());
+    let start = (span.start as usize).min(end);
+    &text[start..end]
 }

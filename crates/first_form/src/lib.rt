@@ -7,14 +7,18 @@
 
 mod analysis;
 mod fault;
+mod file;
 mod form;
+mod laws;
 mod lexeme;
 mod reader;
 mod text;
+mod tokens;
 
 pub use fault::FormFault;
+pub use file::read_form;
 pub use form::{Action, Form, Operand, Statement, Term, Value};
-pub use reader::read_form;
+pub use laws::{a_text_has_one_form, each_line_is_true, each_point_has_its_lines};
 pub use text::form_text;
 
 #[cfg(test)]

@@ -1,4 +1,5 @@
 use crate::{FormFault, form_text, read_form};
+use std::alloc::{AllocError, Global};
 use std::test::Fail;
 
 /// A name of a file, what is in it, and its text.
@@ -60,4 +61,46 @@ fn refused(rt: HostRuntime) {
         let fault = read_form(rt.alloc(), file).err();
         assert_eq!(rt; fault, Some(FormFault::NotOfForm), "{file:?}");
     }
+}
+
+/// A program with this many variables, each of which is read once, and once more as often as asked.
+fn program_of(alloc: Global, variables: u32, more: u32) -> Result<String, AllocError> {
+    let mut text = String::from_str(alloc, "program p; var v0")?;
+    for i in 1..variables {
+        text.push_str(format!(in alloc; ",v{i}")?.as_str())?;
+    }
+    text.push_str(":integer; begin read(v0)")?;
+    for i in 1..variables {
+        text.push_str(format!(in alloc; "; read(v{i})")?.as_str())?;
+    }
+    for _ in 0..more {
+        text.push_str("; v0 := v0 - 1")?;
+    }
+    text.push_str(" end.")?;
+    Ok(text)
+}
+
+/// Variables, further statements, and whether the program is one of the first form.
+const COUNTS: [(u32, u32, bool); 5] = [
+    (1, 0, true),
+    (64, 0, true),
+    (65, 0, false),
+    (1, 999, true),
+    (1, 1000, false),
+];
+
+#[test]
+fn counts(rt: HostRuntime) -> Result<(), Fail> {
+    for (variables, more, served) in COUNTS {
+        let file = program_of(rt.alloc(), variables, more)?;
+        assert!(rt; file.len() <= 1048576);
+        let fault = read_form(rt.alloc(), file.as_str().as_bytes()).err();
+        let want = if served {
+            None
+        } else {
+            Some(FormFault::NotOfForm)
+        };
+        assert_eq!(rt; fault, want, "{variables} variables, {more} more");
+    }
+    Ok(())
 }

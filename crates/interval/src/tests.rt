@@ -1,7 +1,6 @@
 //! The tables against the ends of the range, and against plain enumeration of the numbers of small intervals.
-use crate::{Answer, Itv, Val, binary, clip, unary};
+use crate::{Answer, Itv, binary, clip, unary};
 use arithmetic::{binary_result, unary_result};
-use lattice::Lattice;
 use px_base::{BinOp, Kind, UnOp};
 use std::alloc::{AllocError, Global};
 use std::test::Fail;
@@ -244,5 +243,3 @@ fn of_a_small_interval(rt: HostRuntime) -> Result<(), Fail> {
     }
     Ok(())
 }
-
-const _: () = prove!(size_of::<Val>() <= 16);

@@ -145,11 +145,11 @@ wanted_of_two op wanted x y = meet wanted (binary_answer op x y).value
 abbrev pub unless_empty : Itv → Itv → Itv
 unless_empty w operand = if is_empty w then empty else operand
 
-abbrev pub left_back : BinOp → Itv → Itv → Itv → Itv
+unfoldable pub left_back : BinOp → Itv → Itv → Itv → Itv
 left_back op wanted x y =
     unless_empty (wanted_of_two op wanted x y) (left_operand op (wanted_of_two op wanted x y) x y)
 
-abbrev pub right_back : BinOp → Itv → Itv → Itv → Itv
+unfoldable pub right_back : BinOp → Itv → Itv → Itv → Itv
 right_back op wanted x y =
     unless_empty (wanted_of_two op wanted x y) (right_operand op (wanted_of_two op wanted x y) x y)
 
@@ -181,5 +181,5 @@ operand OrdOf w x = meet w x
 abbrev pub wanted_of_one : UnOp → Itv → Itv → Itv
 wanted_of_one op wanted x = meet wanted (unary_answer op x).value
 
-abbrev pub operand_back : UnOp → Itv → Itv → Itv
+unfoldable pub operand_back : UnOp → Itv → Itv → Itv
 operand_back op wanted x = unless_empty (wanted_of_one op wanted x) (operand op (wanted_of_one op wanted x) x)

@@ -12,6 +12,7 @@ use px_base::{BinOp, UnOp};
 ///
 /// Each answer has the numbers of its operand that can give a wanted result with some number of the other one. For `and`
 /// and `or` these are all that it has; else it may have more. Both are empty where no result is wanted.
+#[tactic(auto, unfolding(crate::specs::Backward::left_back, crate::specs::Backward::right_back))]
 pub fn binary_back(op: BinOp, wanted: Itv, x: Itv, y: Itv) -> (Itv, Itv)
     ensures left { result.0 ≡ left_back op wanted x y }
     ensures right { result.1 ≡ right_back op wanted x y }
@@ -33,6 +34,7 @@ pub fn binary_back(op: BinOp, wanted: Itv, x: Itv, y: Itv) -> (Itv, Itv)
 }
 
 /// The numbers of `x` that are left where `op` at `x` is wanted in an interval and makes no error.
+#[tactic(auto, unfolding(crate::specs::Backward::operand_back))]
 pub fn unary_back(op: UnOp, wanted: Itv, x: Itv) -> Itv
     ensures answer { result ≡ operand_back op wanted x }
     ensures kept { KeepsOperand op wanted x result }

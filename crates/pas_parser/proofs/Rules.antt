@@ -58,6 +58,13 @@ module _ (tokens : List Token) where
         let inside : (span_at tokens (j - 1)).«end» ≤ len = omega (arith, ap (λ s. s.«end») last, (rise.within (j - 1) some_token (omega arith)).1) in
         both_ends len (cover tokens i j) later inside
 
+    -- a later token starts later
+    pub starts_later : (i j : ℕ) → i < j → j < length tokens → (span_at tokens i).start < (span_at tokens j).start
+    starts_later i j h le =
+        let first = span_is i (omega arith) in
+        let last = span_is j le in
+        omega (arith, ap (λ s. s.start) first, ap (λ s. s.start) last, (rise.within i some_token (omega arith)).0, rise.apart i j some_token h le)
+
   -- the number of a token meets what each number token meets
   number_by : (P : ℕ → Type 0) (Q : TokenKind → Type 0) → ((value : ℕ) → Q (kind.Number value) → P value) → All (λ token. Q token.kind) tokens →
       (i value : ℕ) (o : Option Token) → slice_get tokens i ≡ o → option_map (λ (t : Token). t.kind) o ≡ Some (kind.Number value) → P value

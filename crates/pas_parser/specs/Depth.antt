@@ -3,6 +3,7 @@
 use Rattle.std.specs.Prelude.{ℕ, suc, ◌+◌, max, List, [], ◌∷◌, map, Option, Some, None}
 use Rattle.px_base.specs.declared.operator.BinOp.{BinOp}
 use Rattle.px_base.specs.declared.operator.BinOp.TheVariants as op
+use Rattle.pas_parser.specs.Parts.{or_none}
 use Rattle.pas_tree.specs.declared.block.Block.{Block}
 use Rattle.pas_tree.specs.declared.block.Label.{Label}
 use Rattle.pas_tree.specs.declared.block.Routine.{Routine}
@@ -31,10 +32,6 @@ use Rattle.pas_tree.specs.declared.type_expr.TypeExpr.TheFolds.{fold-TypeExpr}
 abbrev pub greatest : List ℕ → ℕ
 greatest [] = 0
 greatest (n ∷ ns) = max n (greatest ns)
-
-abbrev pub or_none : Option ℕ → ℕ
-or_none None = 0
-or_none (Some n) = n
 
 -- ---- Expressions: the depth of what is nested in one. As an expression of its own it counts for one more.
 

@@ -5,6 +5,7 @@ ghost use Rattle.pas_lexer.specs.Spans.{NumbersFit, SpansRise};
 ghost use Rattle.pas_parser.specs.Depth.{tree_depth};
 ghost use Rattle.pas_parser.specs.Each.{NumbersPass, each_tree, fits, numbered, within};
 ghost use Rattle.pas_parser.specs.Grammar.Program.{IsProgram};
+ghost use Rattle.pas_parser.specs.Order.{IsRising, tree_starts};
 ghost use Rattle.pas_parser.specs.Parts.{tree_parts};
 ghost use Rattle.pas_parser.specs.Program as spec;
 ghost use Rattle.pas_parser.specs.Outcome.{Gives, IsPlace};
@@ -76,7 +77,10 @@ pub fn parse(alloc: Global, tokens: &[Token]) -> Result<Tree, ParseFault>
     ensures numbers { (passes : ℕ → Bool) → NumbersPass passes tokens.now → IfOk result (λ tree. each_tree (numbered passes) tree ≡ true) }
     ensures spans { (len : ℕ) → SpansRise len tokens.now → IfOk result (λ tree. each_tree (within len) tree ≡ true) }
 
-    // Of the tokens of a text of `len` bytes both hold at once.
+    // Its constructs begin in the order in which the grammar writes them, at different places for different tokens.
+    ensures order { (len : ℕ) → SpansRise len tokens.now → IfOk result (λ tree. IsRising 0 (tree_starts tree)) }
+
+    // Of the tokens of a text of `len` bytes the numbers and the spans hold at once.
     ensures text { (len : ℕ) → SpansRise len tokens.now → NumbersFit tokens.now → IfOk result (λ tree. each_tree (fits len) tree ≡ true) }
 {
     program(alloc, tokens)

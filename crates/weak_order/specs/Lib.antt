@@ -1,4 +1,5 @@
 pub mod Adjacency
+pub mod Check
 pub mod Edges
 pub mod Order
 pub mod Parts

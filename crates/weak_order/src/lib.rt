@@ -2,7 +2,9 @@
 #![tactic(auto)]
 
 mod adjacency;
+mod check;
 mod edges;
+mod laws;
 mod listing;
 mod nesting;
 mod parts;
@@ -10,6 +12,7 @@ mod readers;
 mod walk;
 
 pub use edges::Edges;
+pub use laws::{orders_are_one, orders_are_weak};
 pub use nesting::order;
 pub use readers::Order;
 

@@ -20,9 +20,10 @@ use Rattle.pas_parser.specs.Constant.{label}
 use Rattle.pas_parser.specs.Expr.{expr}
 use Rattle.pas_parser.specs.Look.{kind_at, span_at, cover, same_word, is_symbol, is_word}
 use Rattle.pas_parser.specs.Outcome.{Outcome}
+use Rattle.pas_parser.specs.Parts.{or_none}
 use Rattle.pas_parser.specs.Reading.{listed}
 use Rattle.pas_parser.specs.Statement as spec
-use Rattle.pas_parser.specs.Depth.{greatest, or_none, assertion_depth, body_step, element_step, statement_step, statement_depth_by, statement_depth, depth_in_body, element_depth}
+use Rattle.pas_parser.specs.Depth.{greatest, assertion_depth, body_step, element_step, statement_step, statement_depth_by, statement_depth, depth_in_body, element_depth}
 use Rattle.pas_parser.specs.Grammar.Expr.{IsExpr}
 use Rattle.pas_parser.specs.Grammar.Statement as g
 use Rattle.pas_parser.specs.Grammar.Word.{IsToken, IsSymbol, IsWord, IsIdent, Many, no_more}

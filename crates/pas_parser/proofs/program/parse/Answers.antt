@@ -1,4 +1,4 @@
-use Rattle.pas_parser.proofs.Whole.{is_program, is_shallow, has_few_parts, lies_within, numbers_pass, fits_text}
+use Rattle.pas_parser.proofs.Whole.{is_program, is_shallow, has_few_parts, lies_within, is_ordered, numbers_pass, fits_text}
 use Rattle.pas_parser.proofs.program.parse.Goals as goal
 
 pub returns-clause-grammar : goal.returns-clause-grammar
@@ -15,6 +15,9 @@ returns-clause-numbers c = numbers_pass c.args.tokens.now c.program.result c.pro
 
 pub returns-clause-spans : goal.returns-clause-spans
 returns-clause-spans c = lies_within c.args.tokens.now c.program.result c.program.ensures.value
+
+pub returns-clause-order : goal.returns-clause-order
+returns-clause-order c = is_ordered c.args.tokens.now c.program.result c.program.ensures.value
 
 pub returns-clause-text : goal.returns-clause-text
 returns-clause-text c = fits_text c.args.tokens.now c.program.result c.program.ensures.value
