@@ -1,10 +1,9 @@
 -- Steps of the loops over the rules of a worked system, over what a rule reads, and over the edges that follow from it.
-use Rattle.std.proofs.Common.{◌≡◌, ℕ, ◌+◌, ◌<◌, List, [], ◌∷◌, ◌++◌, length, map, take, get_or, sym, ap, ◌∙◌, subst, below_more}
+use Rattle.std.proofs.Common.{◌≡◌, ℕ, ◌+◌, ◌<◌, List, ◌++◌, length, map, take, get_or, sym, ap, ◌∙◌, subst, below_more}
 use Rattle.std.specs.List.{All, Contains, fold}
 use Rattle.std.proofs.lemmas.List.{get_or_default, get_or-map, length-map}
 use Rattle.std.proofs.lemmas.List.Elements.{All-contains, Contains-append_left, Contains-append_right, Contains-get_or}
 use Rattle.std.proofs.lemmas.List.Sums.{fold_more}
-use Rattle.interval.specs.declared.itv.Itv.{Itv}
 use Rattle.interval.specs.declared.val.Val.{Val}
 use Rattle.interval.specs.Values.{nothing, val_join, val_ops}
 use Rattle.weak_order.specs.Edges.{Graph, HasEdge}
@@ -25,7 +24,7 @@ reads_more rules i rule reads inside is same below before k r within at =
     let InRange : ℕ → Type 0 = λ n. (s : ℕ) → Contains (rule_at rules n).reads s → s < length rules in
     let all_of : List ℕ → Type 0 = λ nodes. All (λ s. s < length rules) nodes in
     let here : All (λ s. s < length rules) (rule_at rules i).reads
-        = subst all_of (same ∙ ap (λ (x : Rule). x.reads) (rule_read rules i rule inside is)) below in
+    = subst all_of (same ∙ ap (λ (x : Rule). x.reads) (rule_read rules i rule inside is)) below in
     below_more InRange i (λ n h s. before n s h) (λ s. All-contains (λ x. x < length rules) (rule_at rules i).reads s here) k within r at
 
 -- one more node that a rule reads was joined
@@ -51,7 +50,7 @@ pub edges_more : (rules : List Rule) (i : ℕ) (pairs after : List (ℕ × ℕ))
 edges_more rules i pairs after reads same added before k r within at =
     let AreAdded : ℕ → Type 0 = λ n. (s : ℕ) → Contains (rule_at rules n).reads s → Contains (pairs ++ map (λ m. (m, i)) reads) (s, n) in
     let is_read : (s : ℕ) → Contains (rule_at rules i).reads s → Contains reads s
-        = λ s. subst (λ (nodes : List ℕ). Contains nodes s) (sym same) in
+    = λ s. subst (λ (nodes : List ℕ). Contains nodes s) (sym same) in
     subst (λ (ps : List (ℕ × ℕ)). Contains ps (r, k)) (sym added)
     (below_more AreAdded i (λ n h s there. Contains-append_left pairs (map (λ m. (m, i)) reads) (s, n) (before n s h there))
     (λ s here. Contains-append_right pairs (map (λ m. (m, i)) reads) (s, i) (contains_mapped (λ m. (m, i)) reads s (is_read s here))) k within r at)

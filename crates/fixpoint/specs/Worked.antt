@@ -9,7 +9,7 @@ use Rattle.interval.specs.Forward.{binary_answer}
 use Rattle.interval.specs.Intervals.{meet, numbers}
 use Rattle.interval.specs.Values.{nothing, val_join, val_ops}
 use Rattle.fixpoint.specs.Members.{contains_first, contains_later}
-use Rattle.fixpoint.specs.System.{System, element, IsTable, IsSystem}
+use Rattle.fixpoint.specs.System.{System, element, IsSystem}
 
 -- what the equation of a node says
 pub record Rule : Type 0 where

@@ -1,4 +1,4 @@
-use Rattle.std.proofs.Common.{◌≡◌, ◌<◌, ℕ, List, length, sym, subst, ◌∙◌, arith}
+use Rattle.std.proofs.Common.{◌<◌, ℕ, List, length, sym, subst, ◌∙◌, arith}
 use Rattle.std.specs.List.{Contains}
 use Rattle.std.proofs.lemmas.Result.{IfOk-weaker}
 use Rattle.weak_order.specs.Edges.{HasEdge}
@@ -17,10 +17,11 @@ add_reads-requires-clause-reads c = λ r at.
     (c.args.system.now.in_range node r inside (subst (λ (nodes : List ℕ). Contains nodes r) c.reads.ensures at))
 
 pub loop-node-preserved : goal.loop-node-preserved
-loop-node-preserved c =
-    (c.add_reads.ensures.nodes ∙ c.loop-node.invariant.0,
-    edges_more c.args.system.now.equations.now c.loop-node.node c.loop-node.edges.pairs c.add_reads.new.edges.pairs c.reads.result.now
-    c.reads.ensures c.in_ok-add_reads.ensures.pairs c.loop-node.invariant.1)
+loop-node-preserved c = (
+  c.add_reads.ensures.nodes ∙ c.loop-node.invariant.0,
+  edges_more c.args.system.now.equations.now c.loop-node.node c.loop-node.edges.pairs c.add_reads.new.edges.pairs c.reads.result.now
+      c.reads.ensures c.in_ok-add_reads.ensures.pairs c.loop-node.invariant.1,
+)
 
 pub returns : goal.returns
 returns c =
@@ -28,4 +29,4 @@ returns c =
     let graph = c.loop-node.edges in
     IfOk-weaker c.order.result (IsWeakOrder (HasEdge graph) graph.nodes) (IsWeakOrder (Reads (system_of rules)) (length rules))
     (λ layout. order_of_reads rules graph layout c.loop-node.invariant.0
-    (λ k r inside at. c.loop-node.invariant.1 k r (omega (arith, inside, c.loop-node-test.false, c.nodes-node-end.ensures)) at)) c.order.ensures
+    (λ k r inside at. c.loop-node.invariant.1 k r (omega (arith, inside, c.loop-node-test.false, c.nodes-node-end.ensures)) at)) c.order.ensures.weak
