@@ -1,5 +1,5 @@
 //! Worked systems over intervals, with how many evaluations each takes.
-ghost use Rattle.std.specs.Prelude.{◌≡◌, ℕ, ◌+◌, ◌<◌, ◌^◌, ◌++◌, map, length, vec_len, IsTrue, ◌↔◌, OnOk, IfOk};
+ghost use Rattle.std.specs.Prelude.{◌≡◌, ℕ, ◌<◌, ◌^◌, ◌++◌, map, length, IsTrue, ◌↔◌, OnOk, IfOk};
 ghost use Rattle.std.specs.List.{All, Contains};
 ghost use Rattle.weak_order.specs.Order.{IsWeakOrder};
 ghost use Rattle.fixpoint.specs.System.{Reads};
