@@ -1,12 +1,12 @@
 -- Why the tests of an order are enough, and why the order in which all is nested passes them.
-use Rattle.std.proofs.Common.{Bool, true, false, ◌≡◌, ℕ, zero, suc, ◌-◌, ◌<◌, ◌≤◌, max, List, [], ◌∷◌, length, get_or, ◌⊎◌, inl, inr, refl, sym, ◌∙◌, ap, subst, replicate, arith}
+use Rattle.std.proofs.Common.{Bool, true, false, ◌≡◌, ℕ, zero, suc, ◌+◌, ◌-◌, ◌<◌, ◌≤◌, max, List, [], ◌∷◌, ◌++◌, length, get_or, ◌⊎◌, inl, inr, refl, sym, ◌∙◌, ap, subst, replicate, arith, length-append}
 use Rattle.std.specs.Bool.{OnTrue}
-use Rattle.std.specs.List.{All}
+use Rattle.std.specs.List.{All, Contains}
 use Rattle.std.proofs.lemmas.List.{get_or_append_left, get_or-append_right, get_or-replicate, length-replicate}
 use Rattle.std.proofs.lemmas.List.Elements.{All-contains}
 use Rattle.weak_order.specs.Check.{Undoes, AreNested, LeadsOn}
 use Rattle.weak_order.specs.Edges.{Graph, HasEdge}
-use Rattle.weak_order.specs.Order.{numbers, IsWeakOrder}
+use Rattle.weak_order.specs.Order.{numbers, AreApart, IsWeakOrder}
 use Rattle.weak_order.specs.Walk.{AreBelow}
 use Rattle.weak_order.proofs.Lists.{length-numbers}
 
@@ -66,3 +66,6 @@ all_nested_at g n nodes ends e f h =
 pub on_true : (b : Bool) (P Q : Type 0) → (P → Q) → OnTrue b P → OnTrue b Q
 on_true true P Q f p = f p
 on_true false P Q f p = p
+
+pub apart_from_weak : (g : Graph) (nodes ends : List ℕ) → IsWeakOrder (HasEdge g) g.nodes (record { nodes = nodes; ends = ends }) → AreApart nodes
+apart_from_weak g nodes ends w p q h k e = w.once p q (omega (arith, w.places)) (omega (arith, w.places)) e
