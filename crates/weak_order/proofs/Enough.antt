@@ -6,7 +6,7 @@ use Rattle.std.proofs.lemmas.List.{get_or_append_left, get_or-append_right, get_
 use Rattle.std.proofs.lemmas.List.Elements.{All-contains}
 use Rattle.weak_order.specs.Check.{Undoes, AreNested, LeadsOn}
 use Rattle.weak_order.specs.Edges.{Graph, HasEdge}
-use Rattle.weak_order.specs.Order.{numbers, IsWeakOrder}
+use Rattle.weak_order.specs.Order.{numbers, AreApart, IsWeakOrder}
 use Rattle.weak_order.specs.Walk.{AreBelow}
 use Rattle.weak_order.proofs.Lists.{length-numbers}
 
@@ -66,3 +66,6 @@ all_nested_at g n nodes ends e f h =
 pub on_true : (b : Bool) (P Q : Type 0) → (P → Q) → OnTrue b P → OnTrue b Q
 on_true true P Q f p = f p
 on_true false P Q f p = p
+
+pub apart_from_weak : (g : Graph) (nodes ends : List ℕ) → IsWeakOrder (HasEdge g) g.nodes (record { nodes = nodes; ends = ends }) → AreApart nodes
+apart_from_weak g nodes ends w p q h k e = w.once p q (omega (arith, w.places)) (omega (arith, w.places)) e

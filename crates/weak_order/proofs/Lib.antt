@@ -1,4 +1,5 @@
 pub mod Below
+pub mod Depth
 pub mod Enough
 pub mod Lists
 pub mod One
