@@ -1,5 +1,5 @@
 -- What the reader answers at a whole text.
-use Rattle.std.proofs.Common.{◌≡◌, List, Option, Some, None, Result, Ok, Err, IfOk, MatchResult, refl, sym, ap, subst, ◌∙◌}
+use Rattle.std.proofs.Common.{◌≡◌, List, Some, None, Result, Ok, Err, IfOk, MatchResult, sym, ap, ◌∙◌}
 use Rattle.std.specs.Prelude.{IsErrOf}
 use Rattle.pas_lexer.specs.Lexeme.{Text}
 use Rattle.pas_lexer.specs.Covering.{HasTokens, Refuses as RefusesText}

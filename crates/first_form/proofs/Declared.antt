@@ -1,5 +1,5 @@
 -- The reader finds the names that the production of declarations derives, and the variables that they are.
-use Rattle.std.proofs.Common.{◌≡◌, ◌≢◌, ◌⊎◌, ℕ, zero, suc, ◌+◌, ◌<◌, ◌≤◌, Bool, true, false, cond, ◌&&◌, nat_lt, if◌then◌else◌, List, [], ◌∷◌, ◌++◌, length, get_or, Option, Some, None, option_map, is_none, refl, sym, ap, subst, ◌∙◌, ⊎_elim, inl, inr, arith, append_assoc, length-append, rules}
+use Rattle.std.proofs.Common.{◌≡◌, ◌≢◌, ◌⊎◌, ℕ, zero, suc, ◌+◌, ◌<◌, ◌≤◌, Bool, true, false, cond, ◌&&◌, nat_lt, if◌then◌else◌, List, [], ◌∷◌, ◌++◌, length, get_or, Option, Some, None, is_none, refl, sym, ap, subst, ◌∙◌, ⊎_elim, inl, inr, arith, append_assoc, length-append}
 use Rattle.std.specs.List.{slice_get, position_from, AllPairs}
 use Rattle.std.specs.Str.{str_to_ascii_lowercase}
 use Rattle.std.proofs.lemmas.List.{append-nil}
@@ -13,9 +13,9 @@ use Rattle.first_form.specs.declared.lexeme.Lexeme.{Lexeme}
 use Rattle.first_form.specs.declared.lexeme.Mark.TheVariants as mark
 use Rattle.first_form.specs.Lexemes.{bytes_of, name_of, is_spelt}
 use Rattle.first_form.specs.Grammar.{Is, IsNamed, Declare, IsVariable}
-use Rattle.first_form.specs.Reading.{◌>>=◌, same_mark, past, index_of, can_declare, declare, more_names, declarations, variable_of, variable}
+use Rattle.first_form.specs.Reading.{◌>>=◌, same_mark, past, index_of, can_declare, declare, more_names, declarations, variable_of}
 use Rattle.first_form.proofs.Loops.{open_gate, names_end}
-use Rattle.first_form.proofs.Derived.{Front, bound, bind_is, passed, blocked, one_of, some_one, is_mark, mark_is}
+use Rattle.first_form.proofs.Derived.{bound, passed, blocked, one_of, some_one, is_mark, mark_is}
 
 -- ---- names by their letters
 

@@ -1,22 +1,13 @@
 -- The reader finds the parts of a form that the productions derive from the lexemes.
-use Rattle.std.proofs.Common.{◌≡◌, ◌≢◌, ◌⊎◌, ℕ, zero, suc, ◌+◌, ◌-◌, ◌<◌, ◌≤◌, Bool, true, false, ◌&&◌, nat_lt, if◌then◌else◌, List, [], ◌∷◌, ◌++◌, length, get_or, Option, Some, None, option_map, is_none, refl, sym, ap, subst, ◌∙◌, ⊎_elim, inl, inr, arith, append_assoc, rules}
-use Rattle.std.specs.List.{slice_get, position_from, AllPairs}
-use Rattle.std.specs.Str.{str_to_ascii_lowercase, bytes_eq}
-use Rattle.std.proofs.lemmas.List.{append-nil}
-use Rattle.std.proofs.lemmas.List.Quantifiers.{all_pairs_push}
-use Rattle.std.proofs.lemmas.Slice.Eq.{bytes_eq-Decides}
+use Rattle.std.proofs.Common.{◌≡◌, ◌⊎◌, Bool, true, false, if◌then◌else◌, List, [], ◌∷◌, ◌++◌, Option, Some, None, refl, sym, ap, ◌∙◌, ⊎_elim, inl, inr, append_assoc, rules}
 use denote.Enum.Bare.{same_true, true_same}
-use Rattle.px_base.specs.declared.operator.BinOp.{BinOp}
-use Rattle.px_base.specs.declared.operator.BinOp.TheVariants.{Add, Sub}
-use Rattle.pas_lexer.specs.Lexeme.{Text}
 use Rattle.first_form.specs.contracts.lexeme.Mark.{the_type}
 use Rattle.first_form.specs.declared.lexeme.Lexeme.{Lexeme}
 use Rattle.first_form.specs.declared.lexeme.Mark.{Mark}
 use Rattle.first_form.specs.declared.lexeme.Mark.TheVariants as mark
-use Rattle.first_form.specs.Lexemes.{bytes_of, name_of, is_spelt}
 use Rattle.first_form.specs.Grammar.{Is, IsIdent, IsIdents, IsEnclosed, IsParameters}
 use Rattle.first_form.specs.Reading.{◌>>=◌, same_mark, is_ident, past, ident, idents, more_idents, parameters, parameters_by}
-use Rattle.first_form.proofs.Loops.{open_gate, closed_gate, idents_end}
+use Rattle.first_form.proofs.Loops.{open_gate, idents_end}
 
 -- ---- choices
 

@@ -1,12 +1,11 @@
 -- What each form of a program keeps: its variables are declared, its numbers are numbers of the language, and its
 -- operators are those of sums and differences.
-use Rattle.std.proofs.Common.{◌≡◌, ◌⊎◌, ℕ, ◌<◌, List, [], ◌∷◌, length, pos}
+use Rattle.std.proofs.Common.{ℕ, ◌<◌, List, [], ◌∷◌, length, pos}
 use Rattle.arithmetic.specs.Numbers.{IsNumber}
 use Rattle.first_form.specs.declared.form.Form.{Form}
 use Rattle.first_form.specs.declared.form.Statement.{Statement}
 use Rattle.first_form.specs.declared.form.Action.{Action}
 use Rattle.first_form.specs.declared.form.Action.TheVariants.{Read, Assign}
-use Rattle.first_form.specs.declared.form.Value.{Value}
 use Rattle.first_form.specs.declared.form.Term.{Term}
 use Rattle.first_form.specs.declared.form.Operand.{Operand}
 use Rattle.first_form.specs.declared.form.Operand.TheVariants.{Variable, Number}

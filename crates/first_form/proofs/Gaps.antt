@@ -1,6 +1,6 @@
 -- What stands between the tokens of a text.
-use Rattle.std.proofs.Common.{◌≡◌, ◌⊎◌, ℕ, ◌+◌, ◌-◌, ◌<◌, ◌≤◌, true, List, [], ◌∷◌, ◌++◌, map, length, get_or, take, drop, IsTrue, refl, sym, ap, subst, ◌∙◌, ⊎_elim, inl, inr, arith, length-drop}
-use Rattle.std.specs.List.{All, AllPass, Any, slice_range, slice_index}
+use Rattle.std.proofs.Common.{◌≡◌, ◌⊎◌, ℕ, ◌+◌, ◌-◌, ◌<◌, ◌≤◌, List, [], ◌∷◌, ◌++◌, map, length, get_or, take, drop, IsTrue, sym, ap, subst, ◌∙◌, ⊎_elim, inl, inr, arith, length-drop}
+use Rattle.std.specs.List.{AllPass, Any, slice_range, slice_index}
 use Rattle.std.proofs.lemmas.List.{get_or-take, get_or-drop, get_or_default, length-take-le, take_more, map-append}
 use Rattle.std.proofs.lemmas.Bool.{cases_lt}
 use Rattle.pas_lexer.specs.Lexeme.{Text, is_separator}

@@ -1,11 +1,10 @@
 -- Each form of a text keeps to its variables and to the numbers of the language.
-use Rattle.std.proofs.Common.{◌≡◌, ◌≢◌, ◌⊎◌, ℕ, suc, ◌<◌, ◌≤◌, List, [], ◌∷◌, ◌++◌, length, map, get_or, Option, Some, None, refl, sym, ap, subst, ◌∙◌, inl, inr, arith, pos}
-use Rattle.std.specs.List.{slice_get, AllByRecursion, All}
+use Rattle.std.proofs.Common.{suc, ◌≤◌, List, [], ◌∷◌, ◌++◌, length, refl, subst, inl, inr, arith}
+use Rattle.std.specs.List.{AllByRecursion}
 use Rattle.std.proofs.lemmas.Int.{ints}
 use Rattle.std.proofs.lemmas.Option.{slice_get_within}
 use Rattle.px_base.specs.declared.operator.BinOp.{BinOp}
 use Rattle.px_base.specs.declared.operator.BinOp.TheVariants.{Add, Sub}
-use Rattle.arithmetic.specs.Numbers.{IsNumber}
 use Rattle.pas_lexer.specs.Lexeme.{Text}
 use Rattle.pas_lexer.specs.Spans.{NumberFits, NumbersFit}
 use Rattle.pas_lexer.specs.declared.token.Token.{Token}
@@ -17,14 +16,13 @@ use Rattle.first_form.specs.declared.form.Form.{Form}
 use Rattle.first_form.specs.declared.form.Statement.{Statement}
 use Rattle.first_form.specs.declared.form.Action.{Action}
 use Rattle.first_form.specs.declared.form.Action.TheVariants.{Read, Assign}
-use Rattle.first_form.specs.declared.form.Value.{Value}
 use Rattle.first_form.specs.declared.form.Term.{Term}
 use Rattle.first_form.specs.declared.form.Operand.{Operand}
 use Rattle.first_form.specs.declared.form.Operand.TheVariants.{Variable, Number}
-use Rattle.first_form.specs.Lexemes.{value_of, lexeme_of, lexemes_of}
-use Rattle.first_form.specs.Grammar.{IsOperand, IsOperator, IsTerms, IsValue, IsAction, IsStatement, IsStatements, IsProgram, IsFormOf}
+use Rattle.first_form.specs.Lexemes.{value_of, lexemes_of}
+use Rattle.first_form.specs.Grammar.{IsOperand, IsOperator, IsTerms, IsAction, IsStatement, IsStatements, IsProgram, IsFormOf}
 use Rattle.first_form.proofs.Sums.{IsSum}
-use Rattle.first_form.proofs.Fits.{OperandFits, TermFits, TermsFit, ActionFits, StatementsFit, FormFits}
+use Rattle.first_form.proofs.Fits.{OperandFits, TermsFit, ActionFits, StatementsFit, FormFits}
 
 -- the numbers of lexemes are at most 2147483647
 Small : List Lexeme → Type 0

@@ -1,10 +1,9 @@
 -- What the loops of the reader keep: what is left to read gives the whole answer.
-use Rattle.std.proofs.Common.{◌≡◌, ℕ, zero, suc, ◌+◌, ◌-◌, ◌<◌, ◌≤◌, arith, length-append, Bool, true, false, if◌then◌else◌, List, [], ◌∷◌, ◌++◌, length, Option, Some, None, Result, Ok, Err, MatchResult, option_map, refl, sym, ap, subst, ◌∙◌}
+use Rattle.std.proofs.Common.{◌≡◌, ℕ, zero, suc, ◌+◌, ◌-◌, ◌<◌, ◌≤◌, arith, length-append, Bool, true, false, if◌then◌else◌, List, [], ◌∷◌, ◌++◌, length, Option, Some, None, Result, Err, MatchResult, option_map, refl, sym, ap, subst, ◌∙◌}
 use Rattle.px_base.specs.declared.operator.BinOp.{BinOp}
 use Rattle.pas_lexer.specs.Lexeme.{Text}
 use Rattle.first_form.specs.declared.fault.FormFault.{FormFault}
 use Rattle.first_form.specs.declared.lexeme.Lexeme.{Lexeme}
-use Rattle.first_form.specs.declared.lexeme.Mark.{Mark}
 use Rattle.first_form.specs.declared.lexeme.Mark.TheVariants as mark
 use Rattle.first_form.specs.declared.form.Statement.{Statement}
 use Rattle.first_form.specs.declared.form.Term.{Term}

@@ -1,9 +1,8 @@
 -- The text of a form, piece by piece.
 use Rattle.std.proofs.Common.{◌≡◌, ℕ, ◌+◌, List, [], ◌∷◌, ◌++◌, Option, Some, None, refl, sym, ap, ◌∙◌, append_assoc, length, fold, codes, ◌⊎◌, ⊎_elim}
-use Rattle.std.specs.List.{flat_map, zip}
+use Rattle.std.specs.List.{flat_map}
 use Rattle.std.proofs.lemmas.List.{append-nil}
 use Rattle.std.proofs.lemmas.List.Concat.{flat_map-append}
-use Rattle.px_base.specs.declared.place.Pos.{Pos}
 use Rattle.pas_lexer.specs.Lexeme.{Text}
 use Rattle.interval.specs.declared.val.Val.{Val}
 use Rattle.first_form.specs.declared.form.Form.{Form}
@@ -11,8 +10,8 @@ use Rattle.first_form.specs.declared.form.Statement.{Statement}
 use Rattle.first_form.specs.declared.form.Action.{Action}
 use Rattle.first_form.specs.declared.form.Action.TheVariants.{Read, Assign}
 use Rattle.first_form.specs.Points.{Point, Entry, Before, AfterRead, Exit, point}
-use Rattle.first_form.specs.Analysis.{Environment, Row, row, after, at_entry, action_rows, statement_rows, rows_from, table}
-use Rattle.first_form.specs.Text.{Line, Reached, NotReached, line_text, variable_lines, variable_text, variables_text, block, block_text, action_text, statement_text, statements_text, lines_of, text_of, word_text}
+use Rattle.first_form.specs.Analysis.{Environment, Row, row, after, at_entry, action_rows, statement_rows, rows_from}
+use Rattle.first_form.specs.Text.{Reached, NotReached, line_text, variable_lines, variable_text, variables_text, block, block_text, action_text, statement_text, statements_text, lines_of, text_of, word_text}
 
 -- one more piece of what was to be written
 pub written_more : (old piece rest new total : Text) → new ≡ old ++ piece → old ++ (piece ++ rest) ≡ total → new ++ rest ≡ total

@@ -1,5 +1,5 @@
 -- The reader finds the form that the grammar derives from a text, and a text has at most one.
-use Rattle.std.proofs.Common.{◌≡◌, ◌≢◌, List, [], ◌∷◌, ◌++◌, length, Option, Some, None, refl, sym, ap, subst, ◌∙◌, append_assoc}
+use Rattle.std.proofs.Common.{◌≡◌, List, [], ◌∷◌, ◌++◌, Some, refl, sym, ap, subst, ◌∙◌}
 use Rattle.pas_lexer.specs.Lexeme.{Text}
 use Rattle.pas_lexer.specs.Covering.{HasTokens}
 use Rattle.pas_lexer.specs.declared.token.Token.{Token}
@@ -9,7 +9,7 @@ use Rattle.first_form.specs.declared.lexeme.Mark.TheVariants as mark
 use Rattle.first_form.specs.declared.form.Form.{Form}
 use Rattle.first_form.specs.declared.form.Statement.{Statement}
 use Rattle.first_form.specs.Lexemes.{lexemes_of, SeparatorsAlone}
-use Rattle.first_form.specs.Grammar.{Is, IsIdent, IsParameters, Declare, IsStatements, IsProgram, IsFormOf}
+use Rattle.first_form.specs.Grammar.{Is, IsIdent, IsParameters, Declare, IsProgram, IsFormOf}
 use Rattle.first_form.specs.Reading.{◌>>=◌, same_mark, place_of, past, ident, parameters, heading, declarations, variables, statements, ended, program}
 use Rattle.first_form.proofs.Derived.{bound, bind_is, some_one, past_found, past_is, past_other, ident_found, ident_first, parameters_found, parameters_are}
 use Rattle.first_form.proofs.Declared.{Fine, declarations_found, declarations_are}

@@ -1,5 +1,5 @@
 -- The reader finds the statements that the productions derive.
-use Rattle.std.proofs.Common.{◌≡◌, ◌≢◌, ◌⊎◌, ℕ, zero, suc, ◌+◌, ◌<◌, ◌≤◌, Bool, true, false, if◌then◌else◌, List, [], ◌∷◌, ◌++◌, length, Option, Some, None, option_map, refl, sym, ap, subst, ◌∙◌, ⊎_elim, inl, inr, arith, append_assoc}
+use Rattle.std.proofs.Common.{◌≡◌, ◌≢◌, ◌⊎◌, ℕ, zero, suc, ◌≤◌, true, false, if◌then◌else◌, List, [], ◌∷◌, ◌++◌, length, Option, Some, None, option_map, refl, sym, ap, subst, ◌∙◌, ⊎_elim, inl, inr, arith, append_assoc}
 use Rattle.std.specs.List.{AllPairs}
 use Rattle.std.proofs.lemmas.List.{append-nil}
 use Rattle.px_base.specs.declared.place.Pos.{Pos}
@@ -19,7 +19,7 @@ use Rattle.first_form.specs.declared.form.Operand.TheVariants.{Variable, Number}
 use Rattle.first_form.specs.Grammar.{Is, IsVariable, IsOperand, IsOperator, IsTerms, IsValue, IsAction, IsStatement, IsStatements}
 use Rattle.first_form.specs.Reading.{◌>>=◌, same_mark, place_of, past, operator_of, operator, after_sign, more_by, variable_of, variable, operand_of, operand, more_terms, terms, value, reading, assignment, action_by, action, statement, more_statements, statements}
 use Rattle.first_form.proofs.Loops.{terms_end, statements_end}
-use Rattle.first_form.proofs.Derived.{Front, Begins, bound, bind_is, passed, one_of, some_one, is_mark, mark_is, past_found, past_is, past_other}
+use Rattle.first_form.proofs.Derived.{Front, bound, bind_is, one_of, some_one, is_mark, mark_is, past_found, past_is, past_other}
 use Rattle.first_form.proofs.Declared.{variable_found, variable_is}
 
 mapped : {A B : Type 0} (o : Option A) (f : A → B) (y : B) → option_map f o ≡ Some y → (x : A) × (o ≡ Some x) × (f x ≡ y)

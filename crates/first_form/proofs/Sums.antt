@@ -1,16 +1,14 @@
 -- Sums and differences at intervals have those at numbers.
-use Rattle.std.proofs.Common.{◌≡◌, ◌⊎◌, Bool, true, false, ◌||◌, if◌then◌else◌, Result, Ok, Err, IsTrue, refl, sym, ap, subst, ◌∙◌, ⊎_elim, arith, ℤ, ◌≤ℤ◌, ◌+ℤ◌, ◌-ℤ◌}
+use Rattle.std.proofs.Common.{◌≡◌, ◌⊎◌, Bool, true, false, ◌||◌, if◌then◌else◌, Ok, Err, refl, sym, ap, subst, ◌∙◌, ⊎_elim, arith, ℤ, ◌≤ℤ◌, ◌+ℤ◌, ◌-ℤ◌}
 use Rattle.std.proofs.lemmas.Int.{ints}
-use Rattle.px_base.specs.declared.kind.Kind.{Kind}
 use Rattle.px_base.specs.declared.kind.Kind.TheVariants.{Overflow}
 use Rattle.px_base.specs.declared.operator.BinOp.{BinOp}
 use Rattle.px_base.specs.declared.operator.BinOp.TheVariants.{Add, Sub}
 use Rattle.arithmetic.specs.Numbers.{IsNumber, is_number}
 use Rattle.arithmetic.specs.Operators.{binary_result, checked}
 use Rattle.interval.specs.declared.itv.Itv.{Itv}
-use Rattle.interval.specs.declared.answer.Answer.{Answer}
 use Rattle.interval.specs.Answers.{always, clipped, clipped_between}
-use Rattle.interval.specs.Intervals.{IsIn, is_empty, empty, interval, numbers, number_by_test}
+use Rattle.interval.specs.Intervals.{IsIn, is_empty, empty, numbers, number_by_test}
 use Rattle.interval.specs.IntervalLaws.{some_number}
 use Rattle.interval.specs.Same.{interval_has}
 use Rattle.interval.specs.Forward.{binary_answer, binary_table}

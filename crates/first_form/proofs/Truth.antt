@@ -1,5 +1,5 @@
 -- Each line of a text is true: what the environment at a point allows has what each state there stores.
-use Rattle.std.proofs.Common.{◌≡◌, ◌≢◌, ◌⊎◌, ℕ, zero, suc, ◌+◌, ◌<◌, ◌≤◌, Bool, true, false, ◌&&◌, ◌||◌, nat_lt, ◌==◌, if◌then◌else◌, List, [], ◌∷◌, ◌++◌, length, fold, Option, Some, None, Ok, Err, Result, IsTrue, refl, sym, ap, subst, ◌∙◌, ⊎_elim, inl, inr, arith, ℤ, pos, ◌≤ℤ◌, ◌+ℤ◌, ◌-ℤ◌}
+use Rattle.std.proofs.Common.{◌≡◌, ◌≢◌, ◌⊎◌, ℕ, zero, suc, ◌+◌, ◌<◌, ◌≤◌, Bool, true, false, nat_lt, if◌then◌else◌, List, [], ◌∷◌, ◌++◌, length, fold, Option, Some, None, Ok, Err, Result, refl, sym, ap, subst, ◌∙◌, ⊎_elim, inl, inr, arith, ℤ, pos}
 use Rattle.std.specs.List.{slice_get, slice_set, flat_map, AllByRecursion, All}
 use Rattle.std.specs.Prelude.{replicate, option_and_then}
 use Rattle.std.proofs.lemmas.Int.{ints}
@@ -8,17 +8,14 @@ use Rattle.std.proofs.lemmas.List.{length-replicate}
 use Rattle.std.proofs.lemmas.List.Elements.{All-from_recursion}
 use Rattle.px_base.specs.declared.kind.Kind.{Kind}
 use Rattle.px_base.specs.declared.place.Pos.{Pos}
-use Rattle.px_base.specs.declared.operator.BinOp.{BinOp}
-use Rattle.px_base.specs.declared.operator.BinOp.TheVariants.{Add, Sub}
 use Rattle.pas_lexer.specs.Lexeme.{Text}
 use Rattle.arithmetic.specs.Numbers.{IsNumber}
 use Rattle.arithmetic.specs.Operators.{binary_result}
 use Rattle.interval.specs.declared.itv.Itv.{Itv}
 use Rattle.interval.specs.declared.val.Val.{Val}
-use Rattle.interval.specs.Intervals.{IsIn, is_empty, empty, interval, numbers}
+use Rattle.interval.specs.Intervals.{IsIn, is_empty, interval, numbers}
 use Rattle.interval.specs.IntervalLaws.{some_number}
 use Rattle.interval.specs.Same.{interval_has}
-use Rattle.interval.specs.Forward.{binary_answer}
 use Rattle.interval.specs.Values.{Allows}
 use Rattle.first_form.specs.declared.form.Form.{Form}
 use Rattle.first_form.specs.declared.form.Statement.{Statement}
@@ -33,7 +30,7 @@ use Rattle.first_form.specs.Meaning as meaning
 use Rattle.first_form.specs.Meaning.{Item, IsInput, taken, Store, put, State, Step, To, Halted, Fails, state_at, step_from, begun, performed, assigned, read, following, operand_value, with_term, value_of}
 use Rattle.first_form.specs.Analysis as analysis
 use Rattle.first_form.specs.Analysis.{Environment, Row, row, after, at_entry, undefined, defined, operand_numbers, value_numbers, action_rows, statement_rows, rows_from, table}
-use Rattle.first_form.specs.Text.{Line, Reached, NotReached, Holds, variable_lines, block, lines_of, Stands, IsLineTrue}
+use Rattle.first_form.specs.Text.{variable_lines, block, lines_of, Stands, IsLineTrue}
 use Rattle.first_form.proofs.Fits.{OperandFits, TermFits, TermsFit, ActionFits, StatementsFit, FormFits}
 use Rattle.first_form.proofs.Sums.{term_in}
 

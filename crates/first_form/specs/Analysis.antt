@@ -1,5 +1,5 @@
 -- The meaning of a straight program by intervals (after Cousot and Cousot, POPL 1977): forward, from its entry to its exit.
-use Rattle.std.specs.Prelude.{ℕ, ◌+◌, Bool, true, false, if◌then◌else◌, List, [], ◌∷◌, ◌++◌, length, fold, replicate, slice_get, slice_set, Option, Some, None, option_and_then, pos}
+use Rattle.std.specs.Prelude.{ℕ, ◌+◌, true, false, if◌then◌else◌, List, [], ◌∷◌, ◌++◌, length, fold, replicate, slice_get, slice_set, Option, Some, None, pos}
 use Rattle.interval.specs.declared.itv.Itv.{Itv}
 use Rattle.interval.specs.declared.val.Val.{Val}
 use Rattle.interval.specs.Intervals.{interval, empty, numbers, is_empty}

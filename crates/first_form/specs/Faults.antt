@@ -1,5 +1,4 @@
 -- What becomes of a fault of the tokens.
-use Rattle.std.specs.Prelude.{◌≡◌}
 use Rattle.pas_lexer.specs.declared.fault.LexFault.{LexFault}
 use Rattle.pas_lexer.specs.declared.fault.LexFault.TheVariants as lexical
 use Rattle.first_form.specs.declared.fault.FormFault.{FormFault}

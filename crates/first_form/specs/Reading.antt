@@ -1,6 +1,6 @@
 -- How the lexemes of a text are read from left to right: what is found at the front of them, and what is left behind it.
 -- `proofs/` says that this finds the form of `Grammar`.
-use Rattle.std.specs.Prelude.{◌≡◌, ℕ, zero, suc, ◌+◌, Bool, true, false, ◌&&◌, is_none, is_some, nat_lt, if◌then◌else◌, List, [], ◌∷◌, ◌++◌, length, Option, Some, None, option_map}
+use Rattle.std.specs.Prelude.{◌≡◌, ℕ, zero, suc, Bool, true, false, ◌&&◌, is_none, nat_lt, if◌then◌else◌, List, [], ◌∷◌, ◌++◌, length, Option, Some, None, option_map}
 use Rattle.std.specs.List.{position_from}
 use denote.Enum.Bare.{sameb}
 use Rattle.px_base.specs.declared.place.Pos.{Pos}

@@ -1,5 +1,5 @@
 -- The text of a form, line by line, and what each line claims.
-use Rattle.std.specs.Prelude.{◌≡◌, ◌≢◌, ℕ, ◌+◌, List, [], ◌∷◌, ◌++◌, flat_map, zip, slice_get, Option, Some, None, decimal, codes, if◌then◌else◌}
+use Rattle.std.specs.Prelude.{◌≡◌, ℕ, ◌+◌, List, [], ◌∷◌, ◌++◌, flat_map, zip, slice_get, Option, Some, None, decimal, codes, if◌then◌else◌}
 use Rattle.std.specs.Fmt.{signed_decimal}
 use Rattle.px_base.specs.declared.place.Pos.{Pos}
 use Rattle.pas_lexer.specs.Lexeme.{Text}
@@ -13,7 +13,7 @@ use Rattle.first_form.specs.declared.form.Action.{Action}
 use Rattle.first_form.specs.declared.form.Action.TheVariants.{Read, Assign}
 use Rattle.first_form.specs.Points.{Stage, Entry, Before, AfterRead, Exit, Point}
 use Rattle.first_form.specs.Meaning.{Item, IsInput, State, state_at}
-use Rattle.first_form.specs.Analysis.{Environment, Row, after, table}
+use Rattle.first_form.specs.Analysis.{Environment, after, table}
 
 -- ---- lines
 

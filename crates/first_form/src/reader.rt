@@ -34,7 +34,9 @@ fn same_mark(a: Mark, b: Mark) -> bool
 /// What follows the first lexeme, if it is this one.
 #[tactic(auto, unfolding(crate::specs::Reading::past))]
 fn past<'a>(lexemes: &'a [Lexeme], mark: Mark) -> Option<&'a [Lexeme]>
-    ensures value { MatchOption result (spec.past mark lexemes.now ≡ None) (λ rest. spec.past mark lexemes.now ≡ Some rest.now) }
+    ensures value { MatchOption result
+        (spec.past mark lexemes.now ≡ None)
+        (λ rest. spec.past mark lexemes.now ≡ Some rest.now) }
     ensures shorter { IfSome result (λ rest. length rest.now < length lexemes.now) }
 {
     match lexemes {
@@ -45,7 +47,9 @@ fn past<'a>(lexemes: &'a [Lexeme], mark: Mark) -> Option<&'a [Lexeme]>
 
 /// The same of a lexeme that has to stand here.
 fn expect<'a>(lexemes: &'a [Lexeme], mark: Mark) -> Result<&'a [Lexeme], FormFault>
-    ensures value { MatchResult result (λ rest. spec.past mark lexemes.now ≡ Some rest.now) (spec.Refuses (spec.past mark lexemes.now)) }
+    ensures value { MatchResult result
+        (λ rest. spec.past mark lexemes.now ≡ Some rest.now)
+        (spec.Refuses (spec.past mark lexemes.now)) }
     ensures shorter { IfOk result (λ rest. length rest.now < length lexemes.now) }
 {
     match past(lexemes, mark) {
@@ -72,7 +76,9 @@ fn is_ident(mark: Mark) -> bool
 /// `ident`
 #[tactic(auto, unfolding(crate::specs::Reading::ident))]
 fn ident<'a>(lexemes: &'a [Lexeme]) -> Result<&'a [Lexeme], FormFault>
-    ensures value { MatchResult result (λ rest. spec.ident lexemes.now ≡ Some rest.now) (spec.Refuses (spec.ident lexemes.now)) }
+    ensures value { MatchResult result
+        (λ rest. spec.ident lexemes.now ≡ Some rest.now)
+        (spec.Refuses (spec.ident lexemes.now)) }
     ensures shorter { IfOk result (λ rest. length rest.now < length lexemes.now) }
 {
     match lexemes {
@@ -84,7 +90,9 @@ fn ident<'a>(lexemes: &'a [Lexeme]) -> Result<&'a [Lexeme], FormFault>
 /// `ident {"," ident}`
 #[tactic(auto, unfolding(crate::specs::Reading::idents))]
 fn idents<'a>(lexemes: &'a [Lexeme]) -> Result<&'a [Lexeme], FormFault>
-    ensures value { MatchResult result (λ rest. spec.idents lexemes.now ≡ Some rest.now) (spec.Refuses (spec.idents lexemes.now)) }
+    ensures value { MatchResult result
+        (λ rest. spec.idents lexemes.now ≡ Some rest.now)
+        (spec.Refuses (spec.idents lexemes.now)) }
     ensures shorter { IfOk result (λ rest. length rest.now < length lexemes.now) }
 {
     let mut rest = ident(lexemes)?;
@@ -97,7 +105,9 @@ fn idents<'a>(lexemes: &'a [Lexeme]) -> Result<&'a [Lexeme], FormFault>
 /// `["(" ident {"," ident} ")"]`
 #[tactic(auto, unfolding(crate::specs::Reading::parameters, crate::specs::Reading::parameters_by))]
 fn parameters<'a>(lexemes: &'a [Lexeme]) -> Result<&'a [Lexeme], FormFault>
-    ensures value { MatchResult result (λ rest. spec.parameters lexemes.now ≡ Some rest.now) (spec.Refuses (spec.parameters lexemes.now)) }
+    ensures value { MatchResult result
+        (λ rest. spec.parameters lexemes.now ≡ Some rest.now)
+        (spec.Refuses (spec.parameters lexemes.now)) }
     ensures shorter { IfOk result (λ rest. length rest.now ≤ length lexemes.now) }
 {
     match past(lexemes, Mark::LeftParen) {
@@ -109,7 +119,9 @@ fn parameters<'a>(lexemes: &'a [Lexeme]) -> Result<&'a [Lexeme], FormFault>
 /// `"program" ident ["(" ident {"," ident} ")"] ";"`
 #[tactic(auto, unfolding(crate::specs::Reading::heading))]
 fn heading<'a>(lexemes: &'a [Lexeme]) -> Result<&'a [Lexeme], FormFault>
-    ensures value { MatchResult result (λ rest. spec.heading lexemes.now ≡ Some rest.now) (spec.Refuses (spec.heading lexemes.now)) }
+    ensures value { MatchResult result
+        (λ rest. spec.heading lexemes.now ≡ Some rest.now)
+        (spec.Refuses (spec.heading lexemes.now)) }
     ensures shorter { IfOk result (λ rest. length rest.now < length lexemes.now) }
 {
     let name = expect(lexemes, Mark::Program)?;
@@ -163,7 +175,9 @@ fn declare<'a>(
     lexemes: &'a [Lexeme],
 ) -> Reading<'a, Names>
     ensures few { IfOk result (λ r. length r.0 ≤ 64) }
-    ensures value { MatchResult result (λ r. spec.declare text.now names lexemes.now ≡ Some (r.0, r.1.now)) (spec.Refuses (spec.declare text.now names lexemes.now)) }
+    ensures value { MatchResult result
+        (λ r. spec.declare text.now names lexemes.now ≡ Some (r.0, r.1.now))
+        (spec.Refuses (spec.declare text.now names lexemes.now)) }
     ensures shorter { IfOk result (λ r. length r.1.now < length lexemes.now) }
 {
     let [first, rest @ ..] = lexemes else {
@@ -181,7 +195,9 @@ fn declare<'a>(
 #[tactic(auto, unfolding(crate::specs::Reading::declarations))]
 fn declarations<'a>(alloc: Global, text: &[u8], lexemes: &'a [Lexeme]) -> Reading<'a, Names>
     ensures few { IfOk result (λ r. length r.0 ≤ 64) }
-    ensures value { MatchResult result (λ r. spec.declarations text.now lexemes.now ≡ Some (r.0, r.1.now)) (spec.Refuses (spec.declarations text.now lexemes.now)) }
+    ensures value { MatchResult result
+        (λ r. spec.declarations text.now lexemes.now ≡ Some (r.0, r.1.now))
+        (spec.Refuses (spec.declarations text.now lexemes.now)) }
     ensures shorter { IfOk result (λ r. length r.1.now < length lexemes.now) }
 {
     let (mut names, mut rest) = declare(alloc, text, Items::new(alloc), lexemes)?;
@@ -195,7 +211,9 @@ fn declarations<'a>(alloc: Global, text: &[u8], lexemes: &'a [Lexeme]) -> Readin
 #[tactic(auto, unfolding(crate::specs::Reading::variables))]
 fn variables<'a>(alloc: Global, text: &[u8], lexemes: &'a [Lexeme]) -> Reading<'a, Names>
     ensures few { IfOk result (λ r. length r.0 ≤ 64) }
-    ensures value { MatchResult result (λ r. spec.variables text.now lexemes.now ≡ Some (r.0, r.1.now)) (spec.Refuses (spec.variables text.now lexemes.now)) }
+    ensures value { MatchResult result
+        (λ r. spec.variables text.now lexemes.now ≡ Some (r.0, r.1.now))
+        (spec.Refuses (spec.variables text.now lexemes.now)) }
     ensures shorter { IfOk result (λ r. length r.1.now < length lexemes.now) }
 {
     let list = expect(lexemes, Mark::Var)?;
@@ -223,7 +241,9 @@ fn variable_of(text: &[u8], names: &[Items<u8>], lexeme: Lexeme) -> Option<u32>
 #[tactic(auto, unfolding(crate::specs::Reading::variable))]
 fn variable<'a>(text: &[u8], names: &[Items<u8>], lexemes: &'a [Lexeme]) -> Reading<'a, u32>
     requires { length names.now ≤ 64 }
-    ensures value { MatchResult result (λ r. spec.variable text.now names.now lexemes.now ≡ Some (r.0, r.1.now)) (spec.Refuses (spec.variable text.now names.now lexemes.now)) }
+    ensures value { MatchResult result
+        (λ r. spec.variable text.now names.now lexemes.now ≡ Some (r.0, r.1.now))
+        (spec.Refuses (spec.variable text.now names.now lexemes.now)) }
     ensures shorter { IfOk result (λ r. length r.1.now < length lexemes.now) }
 {
     let [first, rest @ ..] = lexemes else {
@@ -252,7 +272,9 @@ fn operand_of(text: &[u8], names: &[Items<u8>], lexeme: Lexeme) -> Option<Operan
 #[tactic(auto, unfolding(crate::specs::Reading::operand))]
 fn operand<'a>(text: &[u8], names: &[Items<u8>], lexemes: &'a [Lexeme]) -> Reading<'a, Operand>
     requires { length names.now ≤ 64 }
-    ensures value { MatchResult result (λ r. spec.operand text.now names.now lexemes.now ≡ Some (r.0, r.1.now)) (spec.Refuses (spec.operand text.now names.now lexemes.now)) }
+    ensures value { MatchResult result
+        (λ r. spec.operand text.now names.now lexemes.now ≡ Some (r.0, r.1.now))
+        (spec.Refuses (spec.operand text.now names.now lexemes.now)) }
     ensures shorter { IfOk result (λ r. length r.1.now < length lexemes.now) }
 {
     let [first, rest @ ..] = lexemes else {
@@ -277,7 +299,9 @@ fn operator_of(mark: Mark) -> Option<BinOp>
 /// `"+" | "-"`
 #[tactic(auto, unfolding(crate::specs::Reading::operator))]
 fn operator<'a>(lexemes: &'a [Lexeme]) -> Option<(BinOp, &'a [Lexeme])>
-    ensures value { MatchOption result (spec.operator lexemes.now ≡ None) (λ r. spec.operator lexemes.now ≡ Some (r.0, r.1.now)) }
+    ensures value { MatchOption result
+        (spec.operator lexemes.now ≡ None)
+        (λ r. spec.operator lexemes.now ≡ Some (r.0, r.1.now)) }
     ensures shorter { IfSome result (λ r. length r.1.now < length lexemes.now) }
 {
     let [first, rest @ ..] = lexemes else {
@@ -298,7 +322,9 @@ fn terms<'a>(
     lexemes: &'a [Lexeme],
 ) -> Reading<'a, Items<Term>>
     requires { length names.now ≤ 64 }
-    ensures value { MatchResult result (λ r. spec.terms text.now names.now lexemes.now ≡ Some (r.0, r.1.now)) (spec.Refuses (spec.terms text.now names.now lexemes.now)) }
+    ensures value { MatchResult result
+        (λ r. spec.terms text.now names.now lexemes.now ≡ Some (r.0, r.1.now))
+        (spec.Refuses (spec.terms text.now names.now lexemes.now)) }
     ensures shorter { IfOk result (λ r. length r.1.now ≤ length lexemes.now) }
 {
     let mut terms = Items::new(alloc);
@@ -320,7 +346,9 @@ fn value<'a>(
     lexemes: &'a [Lexeme],
 ) -> Reading<'a, Value>
     requires { length names.now ≤ 64 }
-    ensures value { MatchResult result (λ r. spec.value text.now names.now lexemes.now ≡ Some (r.0, r.1.now)) (spec.Refuses (spec.value text.now names.now lexemes.now)) }
+    ensures value { MatchResult result
+        (λ r. spec.value text.now names.now lexemes.now ≡ Some (r.0, r.1.now))
+        (spec.Refuses (spec.value text.now names.now lexemes.now)) }
     ensures shorter { IfOk result (λ r. length r.1.now < length lexemes.now) }
 {
     let (first, rest) = operand(text, names, lexemes)?;
@@ -332,7 +360,9 @@ fn value<'a>(
 #[tactic(auto, unfolding(crate::specs::Reading::reading))]
 fn reading<'a>(text: &[u8], names: &[Items<u8>], lexemes: &'a [Lexeme]) -> Reading<'a, Action>
     requires { length names.now ≤ 64 }
-    ensures value { MatchResult result (λ r. spec.reading text.now names.now lexemes.now ≡ Some (r.0, r.1.now)) (spec.Refuses (spec.reading text.now names.now lexemes.now)) }
+    ensures value { MatchResult result
+        (λ r. spec.reading text.now names.now lexemes.now ≡ Some (r.0, r.1.now))
+        (spec.Refuses (spec.reading text.now names.now lexemes.now)) }
     ensures shorter { IfOk result (λ r. length r.1.now < length lexemes.now) }
 {
     let parameter = expect(lexemes, Mark::LeftParen)?;
@@ -351,7 +381,9 @@ fn assignment<'a>(
     lexemes: &'a [Lexeme],
 ) -> Reading<'a, Action>
     requires { length names.now ≤ 64 }
-    ensures value { MatchResult result (λ r. spec.assignment text.now names.now lexemes.now ≡ Some (r.0, r.1.now)) (spec.Refuses (spec.assignment text.now names.now lexemes.now)) }
+    ensures value { MatchResult result
+        (λ r. spec.assignment text.now names.now lexemes.now ≡ Some (r.0, r.1.now))
+        (spec.Refuses (spec.assignment text.now names.now lexemes.now)) }
     ensures shorter { IfOk result (λ r. length r.1.now < length lexemes.now) }
 {
     let (variable, rest) = variable(text, names, lexemes)?;
@@ -369,7 +401,9 @@ fn action<'a>(
     lexemes: &'a [Lexeme],
 ) -> Reading<'a, Action>
     requires { length names.now ≤ 64 }
-    ensures value { MatchResult result (λ r. spec.action text.now names.now lexemes.now ≡ Some (r.0, r.1.now)) (spec.Refuses (spec.action text.now names.now lexemes.now)) }
+    ensures value { MatchResult result
+        (λ r. spec.action text.now names.now lexemes.now ≡ Some (r.0, r.1.now))
+        (spec.Refuses (spec.action text.now names.now lexemes.now)) }
     ensures shorter { IfOk result (λ r. length r.1.now < length lexemes.now) }
 {
     match past(lexemes, Mark::Read) {
@@ -387,7 +421,9 @@ fn statement<'a>(
     lexemes: &'a [Lexeme],
 ) -> Reading<'a, Statement>
     requires { length names.now ≤ 64 }
-    ensures value { MatchResult result (λ r. spec.statement text.now names.now lexemes.now ≡ Some (r.0, r.1.now)) (spec.Refuses (spec.statement text.now names.now lexemes.now)) }
+    ensures value { MatchResult result
+        (λ r. spec.statement text.now names.now lexemes.now ≡ Some (r.0, r.1.now))
+        (spec.Refuses (spec.statement text.now names.now lexemes.now)) }
     ensures shorter { IfOk result (λ r. length r.1.now < length lexemes.now) }
 {
     let (action, rest) = action(alloc, text, names, lexemes)?;
@@ -404,7 +440,9 @@ fn statements<'a>(
     lexemes: &'a [Lexeme],
 ) -> Reading<'a, Items<Statement>>
     requires { length names.now ≤ 64 }
-    ensures value { MatchResult result (λ r. spec.statements text.now names.now lexemes.now ≡ Some (r.0, r.1.now)) (spec.Refuses (spec.statements text.now names.now lexemes.now)) }
+    ensures value { MatchResult result
+        (λ r. spec.statements text.now names.now lexemes.now ≡ Some (r.0, r.1.now))
+        (spec.Refuses (spec.statements text.now names.now lexemes.now)) }
     ensures shorter { IfOk result (λ r. length r.1.now < length lexemes.now) }
 {
     let (first, mut rest) = statement(alloc, text, names, lexemes)?;
@@ -424,7 +462,9 @@ fn statements<'a>(
 /// No lexemes are left.
 #[tactic(auto, unfolding(crate::specs::Reading::ended))]
 fn ended(lexemes: &[Lexeme]) -> Result<(), FormFault>
-    ensures { MatchResult result (λ _. spec.ended lexemes.now ≡ Some []) (spec.Refuses (spec.ended lexemes.now)) }
+    ensures { MatchResult result
+        (λ _. spec.ended lexemes.now ≡ Some [])
+        (spec.Refuses (spec.ended lexemes.now)) }
 {
     match lexemes {
         [] => Ok(()),
@@ -435,7 +475,9 @@ fn ended(lexemes: &[Lexeme]) -> Result<(), FormFault>
 /// A whole program.
 #[tactic(auto, unfolding(crate::specs::Reading::program))]
 pub fn program(alloc: Global, text: &[u8], lexemes: &[Lexeme]) -> Result<Form, FormFault>
-    ensures { MatchResult result (λ form. spec.program text.now lexemes.now ≡ Some form) (spec.Refuses (spec.program text.now lexemes.now)) }
+    ensures { MatchResult result
+        (λ form. spec.program text.now lexemes.now ≡ Some form)
+        (spec.Refuses (spec.program text.now lexemes.now)) }
 {
     let var = heading(lexemes)?;
     let (variables, begin) = variables(alloc, text, var)?;

@@ -67,7 +67,8 @@ fn append_variables(
     names: &[Items<u8>],
     environment: &[Val],
 ) -> Result<(), AllocError>
-    ensures { OnOk result (text.new.items ≡ text.old.items ++ spec.variables_text names.now environment.now) }
+    ensures { OnOk result
+        (text.new.items ≡ text.old.items ++ spec.variables_text names.now environment.now) }
 {
     for (name, value) in names.iter().zip(environment) {
         append_variable(text, name.as_slice(), *value)?;
@@ -83,7 +84,8 @@ fn append_block(
     word: &[u8],
     environment: &Option<Environment>,
 ) -> Result<(), AllocError>
-    ensures { OnOk result (text.new.items ≡ text.old.items ++ spec.block_text names.now place word.now environment.now) }
+    ensures { OnOk result
+        (text.new.items ≡ text.old.items ++ spec.block_text names.now place word.now environment.now) }
 {
     append_label(text, place, word)?;
     match environment {
@@ -102,7 +104,8 @@ fn append_behind(
     action: &Action,
     environment: &Option<Environment>,
 ) -> Result<(), AllocError>
-    ensures { OnOk result (text.new.items ≡ text.old.items ++ spec.action_text names.now action.now environment.now) }
+    ensures { OnOk result
+        (text.new.items ≡ text.old.items ++ spec.action_text names.now action.now environment.now) }
 {
     match action {
         Action::Read { at, .. } => append_block(text, names, *at, b"after read", environment),
@@ -117,7 +120,8 @@ fn append_statements(
     mut environment: Option<Environment>,
     statements: &[Statement],
 ) -> Result<Option<Environment>, AllocError>
-    ensures written { OnOk result (text.new.items ≡ text.old.items ++ spec.statements_text names.now environment statements.now) }
+    ensures written { OnOk result
+        (text.new.items ≡ text.old.items ++ spec.statements_text names.now environment statements.now) }
     ensures behind { IfOk result (λ behind. behind ≡ fold after environment statements.now) }
 {
     for statement in statements {

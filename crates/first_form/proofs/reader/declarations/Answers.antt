@@ -1,4 +1,4 @@
-use Rattle.std.proofs.Common.{◌≡◌, sym, ◌∙◌, rules}
+use Rattle.std.proofs.Common.{sym, ◌∙◌, rules}
 use Rattle.first_form.proofs.Loops.{refused, names_step, names_wrong, names_end}
 use Rattle.first_form.proofs.reader.declarations.Goals as goal
 

@@ -1,4 +1,4 @@
-use Rattle.std.proofs.Common.{◌≡◌, sym, ◌∙◌, rules}
+use Rattle.std.proofs.Common.{sym, ◌∙◌, rules}
 use Rattle.first_form.proofs.Loops.{refused, idents_step, idents_wrong, idents_end}
 use Rattle.first_form.proofs.reader.idents.Goals as goal
 

@@ -1,4 +1,4 @@
-use Rattle.std.proofs.Common.{◌≡◌, ◌-◌, length, sym, ap, ◌∙◌, arith, rules}
+use Rattle.std.proofs.Common.{sym, ap, ◌∙◌, rules}
 use Rattle.first_form.specs.Reading.{more_statements}
 use Rattle.first_form.proofs.Loops.{refused, one_longer, statements_more, statements_full, statements_wrong, statements_end}
 use Rattle.first_form.proofs.reader.statements.Goals as goal

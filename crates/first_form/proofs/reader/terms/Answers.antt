@@ -1,5 +1,4 @@
-use Rattle.std.proofs.Common.{◌≡◌, ◌∷◌, [], ◌++◌, sym, ap, ◌∙◌, rules}
-use Rattle.first_form.specs.Reading.{more_terms}
+use Rattle.std.proofs.Common.{sym, ◌∙◌, rules}
 use Rattle.first_form.proofs.Loops.{refused, terms_more, terms_wrong, terms_end}
 use Rattle.first_form.proofs.reader.terms.Goals as goal
 

@@ -1,4 +1,4 @@
-use Rattle.std.proofs.Common.{◌≡◌, ◌++◌, Some, length, codes, fold, ap, sym, ◌∙◌}
+use Rattle.std.proofs.Common.{◌≡◌, ◌++◌, Some, length, codes, fold, ap, ◌∙◌}
 use Rattle.first_form.specs.Analysis.{after, at_entry}
 use Rattle.first_form.specs.Text.{block_text, statements_text}
 use Rattle.first_form.proofs.Pieces.{whole_text}
