@@ -99,9 +99,9 @@ module _ (t u : Tables) (g : Grows t u) where
       let p = and_parts ((hosted t y.0).fits && has_host (hosted t y.0).boolean (t.type_at index)) _ h in
       let r = and_parts (hosted t y.0).fits _ p.0 in
       ap (element_of u (hosted u y.0) (λ m. subscripted u m (map (hosted u) (exprs ys)))) (g.types n _ e)
-          ∙ ap (λ s. subscript_step s (u.type_at index) (subscripted u element (map (hosted u) (exprs ys)))) (y.1 r.0)
-          ∙ ap (λ o. subscript_step (hosted t y.0) o (subscripted u element (map (hosted u) (exprs ys)))) (same_index (hosted t y.0).boolean index r.1)
-          ∙ ap (subscript_step (hosted t y.0) (t.type_at index)) (rest element p.1)
+      ∙ ap (λ s. subscript_step s (u.type_at index) (subscripted u element (map (hosted u) (exprs ys)))) (y.1 r.0)
+      ∙ ap (λ o. subscript_step (hosted t y.0) o (subscripted u element (map (hosted u) (exprs ys)))) (same_index (hosted t y.0).boolean index r.1)
+      ∙ ap (subscript_step (hosted t y.0) (t.type_at index)) (rest element p.1)
 
   subscripted_again : (ys : List (With OfExpr)) (n : ℕ) → (subscripted t n (map (hosted t) (exprs ys))).fits ≡ true → subscripted u n (map (hosted u) (exprs ys)) ≡ subscripted t n (map (hosted t) (exprs ys))
   subscripted_again [] n h = refl
@@ -146,8 +146,8 @@ module _ (t u : Tables) (g : Grows t u) where
   slot_again : (slot : ℕ) (v : ℕ) → holds_of (λ (d : VarDef). holds_of (λ (s : VarDef). nat_eq s.of_type d.of_type) (t.var_at slot)) (t.var_at v) ≡ true → holds_of (λ (d : VarDef). holds_of (λ (s : VarDef). nat_eq s.of_type d.of_type) (u.var_at slot)) (u.var_at v) ≡ true
   slot_again slot v =
       holds_kept (λ d. holds_of (λ s. nat_eq s.of_type d.of_type) (t.var_at slot)) (λ d. holds_of (λ s. nat_eq s.of_type d.of_type) (u.var_at slot))
-          (λ d. holds_kept (λ s. nat_eq s.of_type d.of_type) (λ s. nat_eq s.of_type d.of_type) (λ s e. e) (t.var_at slot) (u.var_at slot) (g.vars slot))
-          (t.var_at v) (u.var_at v) (g.vars v)
+      (λ d. holds_kept (λ s. nat_eq s.of_type d.of_type) (λ s. nat_eq s.of_type d.of_type) (λ s e. e) (t.var_at slot) (u.var_at slot) (g.vars slot))
+      (t.var_at v) (u.var_at v) (g.vars v)
 
   function_again : (ys : List (With OfActual)) (slot : ℕ) (d : Head) → function_fits t (map (passed t) (actuals_in ys)) slot d ≡ true → function_fits u (map (passed u) (actuals_in ys)) slot d ≡ true
   function_again ys slot d h =
@@ -182,9 +182,9 @@ module _ (t u : Tables) (g : Grows t u) where
       let d = ExprForm-F.«ExprForm::Value» a.0 in
       let p = and_parts (reached t a.0).fits _ (form_fits d h) in
       form_is u d
-          ∙ ap (λ (r : Reached). hosted_if r.fits (hosted_by (u.type_at r.of_type))) (a.1 p.0)
-          ∙ ap (hosted_if (reached t a.0).fits) (same_host_at (reached t a.0).of_type p.1)
-          ∙ sym (form_is t d)
+      ∙ ap (λ (r : Reached). hosted_if r.fits (hosted_by (u.type_at r.of_type))) (a.1 p.0)
+      ∙ ap (hosted_if (reached t a.0).fits) (same_host_at (reached t a.0).of_type p.1)
+      ∙ sym (form_is t d)
   of_form (ExprForm-F.Unary op e at) h =
       let d = ExprForm-F.Unary op e.0 at in
       let p = and_parts (hosted t e.0).fits _ (form_fits d h) in
@@ -199,9 +199,9 @@ module _ (t u : Tables) (g : Grows t u) where
       let p = and_parts (holds_of (function_fits t (map (passed t) (actuals_in actuals)) slot) (t.head_at routine)) _ (form_fits d h) in
       let q = holds_kept (function_fits t (map (passed t) (actuals_in actuals)) slot) (function_fits u (map (passed u) (actuals_in actuals)) slot) (function_again actuals slot) (t.head_at routine) (u.head_at routine) (g.heads routine) p.0 in
       form_is u d
-          ∙ ap (λ b. hosted_if b (hosted_by (type_of_var u slot))) (q ∙ sym p.0)
-          ∙ ap (λ o. hosted_if (holds_of (function_fits t (map (passed t) (actuals_in actuals)) slot) (t.head_at routine)) (hosted_by o)) (same_by (λ o. (hosted_by o).fits) refl (type_of_var t slot) (type_of_var u slot) (type_of_var_kept slot) p.1)
-          ∙ sym (form_is t d)
+      ∙ ap (λ b. hosted_if b (hosted_by (type_of_var u slot))) (q ∙ sym p.0)
+      ∙ ap (λ o. hosted_if (holds_of (function_fits t (map (passed t) (actuals_in actuals)) slot) (t.head_at routine)) (hosted_by o)) (same_by (λ o. (hosted_by o).fits) refl (type_of_var t slot) (type_of_var u slot) (type_of_var_kept slot) p.1)
+      ∙ sym (form_is t d)
 
   of_access : (y : Access-F (With OfActual) (With OfForm) (With OfAccess) (With OfExpr)) → OfAccess (roll-Access (map-Access (With OfActual) (With OfForm) (With OfAccess) (With OfExpr) Actual ExprForm Access Expr (λ e. e.0) (λ e. e.0) (λ e. e.0) (λ e. e.0) y))
   of_access y h =
@@ -216,26 +216,26 @@ module _ (t u : Tables) (g : Grows t u) where
   pub expr_again : (e : Expr) → (hosted t e).fits ≡ true → hosted u e ≡ hosted t e
   expr_again =
       ind-Expr OfActual OfForm OfAccess OfExpr
-          (λ x y is. subst (λ z. OfActual (roll-Actual z)) is (of_actual y))
-          (λ x y is. subst (λ z. OfForm (roll-ExprForm z)) is (of_form y))
-          (λ x y is. subst (λ z. OfAccess (roll-Access z)) is (of_access y))
-          (λ x y is. subst (λ z. OfExpr (roll-Expr z)) is (of_expr y))
+      (λ x y is. subst (λ z. OfActual (roll-Actual z)) is (of_actual y))
+      (λ x y is. subst (λ z. OfForm (roll-ExprForm z)) is (of_form y))
+      (λ x y is. subst (λ z. OfAccess (roll-Access z)) is (of_access y))
+      (λ x y is. subst (λ z. OfExpr (roll-Expr z)) is (of_expr y))
 
   pub access_type_again : (a : Access) → (reached t a).fits ≡ true → reached u a ≡ reached t a
   access_type_again =
       ind-Access OfActual OfForm OfAccess OfExpr
-          (λ x y is. subst (λ z. OfActual (roll-Actual z)) is (of_actual y))
-          (λ x y is. subst (λ z. OfForm (roll-ExprForm z)) is (of_form y))
-          (λ x y is. subst (λ z. OfAccess (roll-Access z)) is (of_access y))
-          (λ x y is. subst (λ z. OfExpr (roll-Expr z)) is (of_expr y))
+      (λ x y is. subst (λ z. OfActual (roll-Actual z)) is (of_actual y))
+      (λ x y is. subst (λ z. OfForm (roll-ExprForm z)) is (of_form y))
+      (λ x y is. subst (λ z. OfAccess (roll-Access z)) is (of_access y))
+      (λ x y is. subst (λ z. OfExpr (roll-Expr z)) is (of_expr y))
 
   pub actual_type_again : (a : Actual) → passed_fits (passed t a) ≡ true → passed u a ≡ passed t a
   actual_type_again =
       ind-Actual OfActual OfForm OfAccess OfExpr
-          (λ x y is. subst (λ z. OfActual (roll-Actual z)) is (of_actual y))
-          (λ x y is. subst (λ z. OfForm (roll-ExprForm z)) is (of_form y))
-          (λ x y is. subst (λ z. OfAccess (roll-Access z)) is (of_access y))
-          (λ x y is. subst (λ z. OfExpr (roll-Expr z)) is (of_expr y))
+      (λ x y is. subst (λ z. OfActual (roll-Actual z)) is (of_actual y))
+      (λ x y is. subst (λ z. OfForm (roll-ExprForm z)) is (of_form y))
+      (λ x y is. subst (λ z. OfAccess (roll-Access z)) is (of_access y))
+      (λ x y is. subst (λ z. OfExpr (roll-Expr z)) is (of_expr y))
 
   -- ---- statements
 
@@ -279,8 +279,8 @@ module _ (t u : Tables) (g : Grows t u) where
       let r = and_parts (nat_eq (reached t target).of_type (reached t source).of_type) _ p.1 in
       let n = (reached t target).of_type in
       ap (λ x. copy_fits u x (reached u source)) (access_type_again target q.0)
-          ∙ ap (copy_fits u (reached t target)) (access_type_again source q.1)
-          ∙ and_from _ _ p.0 (and_from _ _ r.0 (ap is_array (same_by is_array refl (t.type_at n) (u.type_at n) (g.types n) r.1) ∙ r.1))
+      ∙ ap (copy_fits u (reached t target)) (access_type_again source q.1)
+      ∙ and_from _ _ p.0 (and_from _ _ r.0 (ap is_array (same_by is_array refl (t.type_at n) (u.type_at n) (g.types n) r.1) ∙ r.1))
 
   loop_again : (control bound : ℕ) (first last : Expr) → loop_fits t control bound (hosted t first) (hosted t last) ≡ true → loop_fits u control bound (hosted u first) (hosted u last) ≡ true
   loop_again control bound first last h =
@@ -290,8 +290,8 @@ module _ (t u : Tables) (g : Grows t u) where
       let s = and_parts (has_host (hosted t first).boolean (type_of_var t control)) _ r.0 in
       let same = same_by (has_host (hosted t first).boolean) refl (type_of_var t control) (type_of_var u control) (type_of_var_kept control) s.0 in
       ap (λ x. loop_fits u control bound x (hosted u last)) (expr_again first q.0)
-          ∙ ap (loop_fits u control bound (hosted t first)) (expr_again last q.1)
-          ∙ and_from _ _ p.0 (and_from _ _ (subst (λ o. (has_host (hosted t first).boolean o && has_host (hosted t last).boolean o) ≡ true) (sym same) r.0) (slot_again bound control r.1))
+      ∙ ap (loop_fits u control bound (hosted t first)) (expr_again last q.1)
+      ∙ and_from _ _ p.0 (and_from _ _ (subst (λ o. (has_host (hosted t first).boolean o && has_host (hosted t last).boolean o) ≡ true) (sym same) r.0) (slot_again bound control r.1))
 
   abbrev OfBody : Body → Type 0
   OfBody = Along (body_types_fit t) (body_types_fit u)
@@ -331,7 +331,7 @@ module _ (t u : Tables) (g : Grows t u) where
   of_body (Body-F.Copy target source) h = from_body (Body-F.Copy target source) (copy_again target source (to_body (Body-F.Copy target source) h))
   of_body (Body-F.Call routine actuals at) h =
       from_body (Body-F.Call routine actuals at)
-          (holds_kept (procedure_fits t (map (passed t) actuals)) (procedure_fits u (map (passed u) actuals)) (procedure_again actuals) (t.head_at routine) (u.head_at routine) (g.heads routine) (to_body (Body-F.Call routine actuals at) h))
+      (holds_kept (procedure_fits t (map (passed t) actuals)) (procedure_fits u (map (passed u) actuals)) (procedure_again actuals) (t.head_at routine) (u.head_at routine) (g.heads routine) (to_body (Body-F.Call routine actuals at) h))
   of_body (Body-F.Read targets line) h = from_body (Body-F.Read targets line) (list_all_weaker _ _ (target_again false) targets (to_body (Body-F.Read targets line) h))
   of_body (Body-F.Write items line) h = from_body (Body-F.Write items line) (list_all_weaker (item_fits t) (item_fits u) item_again items (to_body (Body-F.Write items line) h))
   of_body (Body-F.Goto routine label) h = from_body (Body-F.Goto routine label) refl
@@ -349,8 +349,8 @@ module _ (t u : Tables) (g : Grows t u) where
       let p = and_parts (hosted t selector).fits _ (to_body (Body-F.Case selector old) h) in
       let r = and_parts (list_all (in_host (hosted t selector).boolean) (constants (map (arm_types t) old))) _ p.1 in
       from_body (Body-F.Case selector old)
-          (ap (λ (s : Hosted). s.fits && (list_all (in_host s.boolean) (constants (map (arm_types u) old)) && all_true (map (λ (a : Bool × List ℤ). a.0) (map (arm_types u) old)))) (expr_again selector p.0)
-              ∙ and_from _ _ p.0 (and_from _ _ (subst (λ zs. list_all (in_host (hosted t selector).boolean) zs ≡ true) (same_constants old) r.0) (arms_again arms r.1)))
+      (ap (λ (s : Hosted). s.fits && (list_all (in_host s.boolean) (constants (map (arm_types u) old)) && all_true (map (λ (a : Bool × List ℤ). a.0) (map (arm_types u) old)))) (expr_again selector p.0)
+      ∙ and_from _ _ p.0 (and_from _ _ (subst (λ zs. list_all (in_host (hosted t selector).boolean) zs ≡ true) (same_constants old) r.0) (arms_again arms r.1)))
   of_body (Body-F.While test body) h =
       let p = and_parts (is_of_host true (hosted t test)) _ (to_body (Body-F.While test body.0) h) in
       from_body (Body-F.While test body.0) (and_from _ _ (host_again true test p.0) (body.1 p.1))
@@ -365,17 +365,17 @@ module _ (t u : Tables) (g : Grows t u) where
   of_arm y h =
       let d = map-Arm (With OfBody) (With OfArm) (With OfStatement) Body Arm Statement (λ e. e.0) (λ e. e.0) (λ e. e.0) y in
       ap (λ a. a.0) (fold-roll-Arm Bool (Bool × List ℤ) Bool (body_type_step u) arm_step statement_type_step d)
-          ∙ y.body.1 (sym (ap (λ a. a.0) (fold-roll-Arm Bool (Bool × List ℤ) Bool (body_type_step t) arm_step statement_type_step d)) ∙ h)
+      ∙ y.body.1 (sym (ap (λ a. a.0) (fold-roll-Arm Bool (Bool × List ℤ) Bool (body_type_step t) arm_step statement_type_step d)) ∙ h)
 
   of_statement : (y : Statement-F (With OfBody) (With OfArm) (With OfStatement)) → OfStatement (roll-Statement (map-Statement (With OfBody) (With OfArm) (With OfStatement) Body Arm Statement (λ e. e.0) (λ e. e.0) (λ e. e.0) y))
   of_statement y h =
       let d = map-Statement (With OfBody) (With OfArm) (With OfStatement) Body Arm Statement (λ e. e.0) (λ e. e.0) (λ e. e.0) y in
       fold-roll-Statement Bool (Bool × List ℤ) Bool (body_type_step u) arm_step statement_type_step d
-          ∙ y.body.1 (sym (fold-roll-Statement Bool (Bool × List ℤ) Bool (body_type_step t) arm_step statement_type_step d) ∙ h)
+      ∙ y.body.1 (sym (fold-roll-Statement Bool (Bool × List ℤ) Bool (body_type_step t) arm_step statement_type_step d) ∙ h)
 
   pub statement_again : (s : Statement) → statement_types_fit t s ≡ true → statement_types_fit u s ≡ true
   statement_again =
       ind-Statement OfBody OfArm OfStatement
-          (λ x y is. subst (λ z. OfBody (roll-Body z)) is (of_body y))
-          (λ x y is. subst (λ z. OfArm (roll-Arm z)) is (of_arm y))
-          (λ x y is. subst (λ z. OfStatement (roll-Statement z)) is (of_statement y))
+      (λ x y is. subst (λ z. OfBody (roll-Body z)) is (of_body y))
+      (λ x y is. subst (λ z. OfArm (roll-Arm z)) is (of_arm y))
+      (λ x y is. subst (λ z. OfStatement (roll-Statement z)) is (of_statement y))

@@ -137,9 +137,9 @@ fits_append types more t (Array index element) fits k h =
     let i = is_scalar-append types more index (slice_get types index) refl r.0 in
     let l = layout-append types more element fits (omega (arith, k, ltb-true element t q.1)) in
     and_from _ _ p.0 (and_from _ _ (ap is_scalar i ∙ r.0)
-        (ap (λ o. nat_le (count_values o * (layout (types ++ more) element).count) most_elements) i
-            ∙ ap (λ (x : Layout). nat_le (count_values (slice_get types index) * x.count) most_elements) l
-            ∙ r.1))
+    (ap (λ o. nat_le (count_values o * (layout (types ++ more) element).count) most_elements) i
+    ∙ ap (λ (x : Layout). nat_le (count_values (slice_get types index) * x.count) most_elements) l
+    ∙ r.1))
 
 some_same : {A : Type 0} {x y : A} → Some x ≡ Some y → x ≡ y
 some_same e = cc
@@ -154,7 +154,7 @@ slice_get_last (z ∷ xs) x (suc k) y h e = let r = slice_get_last xs x k y (ome
 pub types_fit_push : (types : List TypeDef) (d : TypeDef) → TypesFit types → type_fits types (length types) d ≡ true → TypesFit (types ++ d ∷ [])
 types_fit_push types d fits h = record {
   each = λ t x e. elim (slice_get_cases types t).1 [
-    inl w ↦ (let same : w.0 ≡ x = some_same (sym (slice_get-append types (d ∷ []) t w.0 w.2) ∙ e) in
+    | inl w ↦ (let same : w.0 ≡ x = some_same (sym (slice_get-append types (d ∷ []) t w.0 w.2) ∙ e) in
         fits_append types (d ∷ []) t x fits (omega (arith, w.1)) (fits.each t x (w.2 ∙ ap Some same)))
     | inr w ↦ (let r = slice_get_last types d t x w.0 e in
         subst (λ y. type_fits (types ++ d ∷ []) t y ≡ true) r.1 (subst (λ k. type_fits (types ++ d ∷ []) k d ≡ true) (sym r.0) (fits_append types (d ∷ []) (length types) d fits (omega arith) h)))

@@ -51,11 +51,11 @@ module _ (t u : Tables) (g : Grows t u) where
   leads_kept zero r s h = h
   leads_kept (suc n) r s h =
       elim (or_cases (nat_eq r s) _ h) [
-        inl e ↦ or_left _ _ e
+        | inl e ↦ or_left _ _ e
         | inr e ↦ or_right (nat_eq r s) _
             (holds_kept (λ d. holds_of (λ p. leads_within n t p s) d.parent) (λ d. holds_of (λ p. leads_within n u p s) d.parent)
-                (λ d. holds_kept (λ p. leads_within n t p s) (λ p. leads_within n u p s) (λ p. leads_kept n p s) d.parent d.parent (λ p k. k))
-                (t.head_at r) (u.head_at r) (g.heads r) e)
+            (λ d. holds_kept (λ p. leads_within n t p s) (λ p. leads_within n u p s) (λ p. leads_kept n p s) d.parent d.parent (λ p k. k))
+            (t.head_at r) (u.head_at r) (g.heads r) e)
       ]
 
   around_kept : (r s : ℕ) → is_around t r s ≡ true → is_around u r s ≡ true
@@ -67,8 +67,8 @@ module _ (t u : Tables) (g : Grows t u) where
   callable_kept : (r s : ℕ) → is_callable t r s ≡ true → is_callable u r s ≡ true
   callable_kept r s =
       holds_kept (λ d. holds_of (λ p. is_around t r p) d.parent) (λ d. holds_of (λ p. is_around u r p) d.parent)
-          (λ d. holds_kept (λ p. is_around t r p) (λ p. is_around u r p) (λ p. around_kept r p) d.parent d.parent (λ p k. k))
-          (t.head_at s) (u.head_at s) (g.heads s)
+      (λ d. holds_kept (λ p. is_around t r p) (λ p. is_around u r p) (λ p. around_kept r p) d.parent d.parent (λ p k. k))
+      (t.head_at s) (u.head_at s) (g.heads s)
 
   own_kept : (r : ℕ) (k : VarKind) (v : ℕ) → is_own t r k v ≡ true → is_own u r k v ≡ true
   own_kept r k v = holds_kept (λ d. nat_eq d.routine r && is_kind k d.kind) (λ d. nat_eq d.routine r && is_kind k d.kind) (λ d h. h) (t.var_at v) (u.var_at v) (g.vars v)

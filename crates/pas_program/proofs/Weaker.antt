@@ -246,7 +246,6 @@ module _ (q u : Rule) (w : Weaker q u) where
       let s = and_parts (each_expr q last) _ r.1 in
       from_body u (Body-F.For control bound first down last body.0) (and_from _ _ (w.loop control bound p.0) (and_from _ _ (expr_weaker first r.0) (and_from _ _ (expr_weaker last s.0) (body.1 s.1))))
 
-
   of_arm : (y : Arm-F (With OfBody) (With OfArm) (With OfStatement)) → OfArm (roll-Arm (map-Arm (With OfBody) (With OfArm) (With OfStatement) Body Arm Statement (λ e. e.0) (λ e. e.0) (λ e. e.0) y))
   of_arm y h = from_arm u _ (y.body.1 (to_arm q _ h))
 
@@ -258,6 +257,6 @@ module _ (q u : Rule) (w : Weaker q u) where
   pub statement_weaker : (s : Statement) → each_statement q s ≡ true → each_statement u s ≡ true
   statement_weaker =
       ind-Statement OfBody OfArm OfStatement
-          (λ x y is. subst (λ z. OfBody (roll-Body z)) is (of_body y))
-          (λ x y is. subst (λ z. OfArm (roll-Arm z)) is (of_arm y))
-          (λ x y is. subst (λ z. OfStatement (roll-Statement z)) is (of_statement y))
+      (λ x y is. subst (λ z. OfBody (roll-Body z)) is (of_body y))
+      (λ x y is. subst (λ z. OfArm (roll-Arm z)) is (of_arm y))
+      (λ x y is. subst (λ z. OfStatement (roll-Statement z)) is (of_statement y))

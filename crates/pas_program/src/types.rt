@@ -23,9 +23,9 @@ impl Program {
     {
         match (self.type_def(a), self.type_def(b)) {
             (TypeDef::Scalar { boolean, .. }, TypeDef::Scalar { boolean: other, .. }) => {
-                a == b || boolean == other
+                self.same_type(a, b) || boolean == other
             }
-            _ => a == b,
+            _ => self.same_type(a, b),
         }
     }
 

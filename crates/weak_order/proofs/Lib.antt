@@ -1,0 +1,5 @@
+pub mod Below
+pub mod Enough
+pub mod Lists
+pub mod One
+pub mod Weak
