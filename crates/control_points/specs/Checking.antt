@@ -1,9 +1,9 @@
 -- The errors that an action may be, in the order of evaluation, each with its place (ISO 7185, 3.2 and 6.5 to 6.9). Those of
 -- the calls in it are not among them: the calls are actions of their own.
-use Rattle.std.specs.Prelude.{ℕ, Bool, true, false, ◌&&◌, not, List, [], ◌∷◌, ◌++◌, pos, neg_ℤ, Option, Some, None, if◌then◌else◌}
+use Rattle.std.specs.Prelude.{ℕ, Bool, true, false, ◌&&◌, not, List, [], ◌∷◌, ◌++◌, pos, neg_ℤ, Option, Some, None, slice_get, if◌then◌else◌}
 use Rattle.std.specs.Ordering.{int_eq}
 use Rattle.px_base.specs.declared.kind.Kind.{Kind}
-use Rattle.px_base.specs.declared.kind.Kind.TheVariants.{Overflow, DivisionByZero, ModulusNotPositive, UndefinedValue, IndexOutOfRange, ValueOutOfRange, NoCaseLabel, NoNeighbour, NoNumber, WidthOutOfRange}
+use Rattle.px_base.specs.declared.kind.Kind.TheVariants.{Overflow, DivisionByZero, ModulusNotPositive, UndefinedValue, IndexOutOfRange, ValueOutOfRange, NoCaseLabel, NoNeighbour, NoNumber, WidthOutOfRange, Assertion, NoResult}
 use Rattle.px_base.specs.declared.operator.BinOp.{BinOp}
 use Rattle.px_base.specs.declared.operator.BinOp.TheVariants as binary
 use Rattle.px_base.specs.declared.operator.UnOp.{UnOp}
@@ -20,7 +20,8 @@ use Rattle.pas_program.specs.declared.statement.WriteValue.{WriteValue}
 use Rattle.pas_program.specs.declared.statement.WriteValue.TheVariants as written
 use Rattle.pas_program.specs.declared.type_def.TypeDef.{TypeDef}
 use Rattle.pas_program.specs.declared.type_def.TypeDef.TheVariants.{Scalar}
-use Rattle.pas_program.specs.Tables.{Tables}
+use Rattle.pas_program.specs.declared.routine.Assert.{Assert}
+use Rattle.pas_program.specs.Tables.{Tables, Head}
 use Rattle.pas_program.specs.Types.{maxint}
 use Rattle.control_points.specs.declared.fault.Fault.{Fault}
 use Rattle.control_points.specs.Evaluation.{index_type, element_type, var_type}
@@ -144,3 +145,22 @@ abbrev pub bounds_checks : Tables → ℕ → Expr → Expr → Faults
 bounds_checks t n first last =
     expr_checks t first ++ (expr_checks t last
     ++ (one_if (is_narrow (t.type_at n)) ValueOutOfRange (out-Expr first).first ++ one_if (is_narrow (t.type_at n)) ValueOutOfRange (out-Expr last).first))
+
+-- the formals of a routine
+abbrev pub formals_of : Option Head → List ℕ
+formals_of None = []
+formals_of (Some h) = h.formals
+
+-- an assertion that must always hold
+abbrev pub assert_check : Option Assert → Faults
+assert_check None = []
+assert_check (Some a) = if a.sometime then [] else one Assertion (out-Expr a.cond).first
+
+abbrev pub assert_checks : List Assert → List ℕ → Faults
+assert_checks asserts [] = []
+assert_checks asserts (a ∷ listed) = assert_check (slice_get asserts a) ++ assert_checks asserts listed
+
+-- a function's result at its exit
+abbrev pub result_checks : Option ℕ → ℕ → Faults
+result_checks None at = []
+result_checks (Some v) at = one NoResult at

@@ -1,9 +1,11 @@
--- The points and edges of a program, by the tree of its text: a point is a routine, the path of a statement in the routine's
+-- The points, edges and checks of a program, by the tree of its text: a point is a routine, the path of a statement in the routine's
 -- body, and a word that says where in the statement it lies. `next` is the point that follows a statement.
 use Rattle.std.specs.Prelude.{◌≡◌, ℕ, suc, Bool, true, false, ◌&&◌, List, [], ◌∷◌, ◌++◌, map, ℤ, nat_eq, slice_get, Option, Some, None, unwrap_or, position, if◌then◌else◌}
 use Rattle.pas_program.specs.declared.expr.Access.{Access}
 use Rattle.pas_program.specs.declared.expr.Actual.TheViews.{out-Access, out-Expr}
 use Rattle.pas_program.specs.declared.expr.Expr.{Expr}
+use Rattle.pas_program.specs.declared.program.Program.{Program}
+use Rattle.pas_program.specs.declared.routine.Assert.{Assert}
 use Rattle.pas_program.specs.declared.routine.Routine.{Routine}
 use Rattle.pas_program.specs.declared.statement.Arm.{Arm}
 use Rattle.pas_program.specs.declared.statement.Body.{Body}
@@ -14,13 +16,19 @@ use Rattle.pas_program.specs.declared.statement.Statement.{Statement}
 use Rattle.pas_program.specs.declared.statement.WriteItem.{WriteItem}
 use Rattle.pas_program.specs.declared.statement.WriteValue.{WriteValue}
 use Rattle.pas_program.specs.declared.statement.WriteValue.TheVariants as written
+use Rattle.pas_program.specs.Checked.{tables}
+use Rattle.pas_program.specs.Tables.{Tables}
+use Rattle.control_points.specs.declared.check.Check.{Check}
 use Rattle.control_points.specs.declared.edge.Act.{Act}
 use Rattle.control_points.specs.declared.edge.Act.TheVariants as act
 use Rattle.control_points.specs.declared.edge.Edge.{Edge}
+use Rattle.control_points.specs.declared.fault.Fault.{Fault}
 use Rattle.control_points.specs.declared.point.Point.{Point}
 use Rattle.control_points.specs.declared.point.PointKind.{PointKind}
 use Rattle.control_points.specs.declared.point.PointKind.TheVariants as kind
 use Rattle.control_points.specs.Calls.{CallSite, Sites, expr_calls, access_calls, actuals_calls, item_calls}
+use Rattle.control_points.specs.Checking.{Faults, expr_checks, access_checks, assigned_checks, passing_checks, read_checks, item_checks, selector_checks, bounds_checks, formals_of, assert_checks, result_checks}
+use Rattle.control_points.specs.Evaluation.{var_type, access_type}
 
 -- ---- names of points
 
@@ -51,25 +59,37 @@ pub record Link : Type 0 where
   pub deed : Deed
   pub target : Site
 
--- the points of a statement in order, and its edges
+-- a check of the action that leaves a point
+pub record Judged : Type 0 where
+  pub site : Site
+  pub fault : Fault
+
+-- the points of a statement in order, its edges, and its checks
 pub record Piece : Type 0 where
   pub points : List Placed
   pub links : List Link
+  pub checks : List Judged
 
 abbrev pub nothing : Piece
-nothing = record { points = []; links = [] }
+nothing = record { points = []; links = []; checks = [] }
 
 abbrev pub both : Piece → Piece → Piece
-both p q = record { points = p.points ++ q.points; links = p.links ++ q.links }
+both p q = record { points = p.points ++ q.points; links = p.links ++ q.links; checks = p.checks ++ q.checks }
+
+abbrev pub judged_at : Site → Fault → Judged
+judged_at s f = record { site = s; fault = f }
+
+abbrev pub judged : Site → Faults → Piece
+judged s faults = record { points = []; links = []; checks = map (judged_at s) faults }
 
 abbrev pub link : Site → Deed → Site → Link
 link source deed target = record { source = source; deed = deed; target = target }
 
 abbrev pub point_of : Site → ℕ → Piece
-point_of site at = record { points = record { site = site; at = at } ∷ []; links = [] }
+point_of site at = record { points = record { site = site; at = at } ∷ []; links = []; checks = [] }
 
 abbrev pub way : Site → Act → Site → Piece
-way source action target = record { points = []; links = link source (does action) target ∷ [] }
+way source action target = record { points = []; links = link source (does action) target ∷ []; checks = [] }
 
 abbrev pub entry_of : ℕ → Site
 entry_of r = record { routine = r; path = []; kind = kind.Entry; number = 0 }
@@ -85,21 +105,25 @@ pub record Made : Type 0 where
   pub here : Site
   pub number : ℕ
 
-abbrev pub call_piece : CallSite → Site → Site → Piece
-call_piece c source back = record {
-  points = record { site = back; at = c.at } ∷ [];
-  links = link source (calls c) (entry_of c.routine) ∷ link (exit_of c.routine) (returns source) back ∷ [];
-}
+-- a call with its return
+abbrev pub call_links : CallSite → Site → Site → Piece
+call_links c source back = record { points = []; links = link source (calls c) (entry_of c.routine) ∷ link (exit_of c.routine) (returns source) back ∷ []; checks = [] }
+
+abbrev pub call_checks : Tables → CallSite → Faults
+call_checks t c = passing_checks t c.actuals (formals_of (t.head_at c.routine))
+
+abbrev pub call_piece : Tables → CallSite → Site → Site → Piece
+call_piece t c source back = both (judged source (call_checks t c)) (both (call_links c source back) (point_of back c.at))
 
 abbrev pub before_made : Piece → Made → Made
 before_made first m = record { piece = both first m.piece; here = m.here; number = m.number }
 
 -- the calls of a statement at a path, of which the first has the number n
-abbrev pub made : ℕ → Path → ℕ → Site → Sites → Made
-made r path n source [] = record { piece = nothing; here = source; number = n }
-made r path n source (c ∷ sites) =
+abbrev pub made : Tables → ℕ → Path → ℕ → Site → Sites → Made
+made t r path n source [] = record { piece = nothing; here = source; number = n }
+made t r path n source (c ∷ sites) =
     let back : Site = record { routine = r; path = path; kind = kind.AfterCall; number = n } in
-    before_made (call_piece c source back) (made r path (suc n) back sites)
+    before_made (call_piece t c source back) (made t r path (suc n) back sites)
 
 -- ---- statements
 
@@ -107,7 +131,7 @@ made r path n source (c ∷ sites) =
 abbrev pub Placing : Type 0
 Placing = Path → Site → Piece
 
-module _ (r : ℕ) where
+module _ (t : Tables) (asserts : List Assert) (r : ℕ) where
   abbrev pub site : PointKind → ℕ → Path → Site
   site k n path = record { routine = r; path = path; kind = k; number = n }
 
@@ -121,16 +145,16 @@ module _ (r : ℕ) where
   abbrev pub in_order : ℕ → List Placing → Placing
   in_order n [] path next = nothing
   in_order n (s ∷ []) path next = s (inner path n) next
-  in_order n (s ∷ t ∷ rest) path next = both (s (inner path n) (before (inner path (suc n)))) (in_order (suc n) (t ∷ rest) path next)
+  in_order n (s ∷ u ∷ rest) path next = both (s (inner path n) (before (inner path (suc n)))) (in_order (suc n) (u ∷ rest) path next)
 
-  -- an action after its calls
-  abbrev pub action : Path → Site → Sites → (Site → Piece) → Piece
-  action path source sites rest = let m = made r path 0 source sites in both m.piece (rest m.here)
+  -- an action after its calls, with its checks
+  abbrev pub action : Path → Site → Sites → Faults → (Site → Piece) → Piece
+  action path source sites faults rest = let m = made t r path 0 source sites in both m.piece (both (judged m.here faults) (rest m.here))
 
   -- a condition with its two ways
   abbrev pub condition : Path → Site → Expr → Site → Site → Piece
   condition path source cond held failed =
-      action path source (expr_calls cond) (λ here. both (way here (act.Test cond true) held) (way here (act.Test cond false) failed))
+      action path source (expr_calls cond) (expr_checks t cond) (λ here. both (way here (act.Test cond true) held) (way here (act.Test cond false) failed))
 
   abbrev pub line_act : Bool → Act → Act
   line_act true a = a
@@ -140,9 +164,9 @@ module _ (r : ℕ) where
   abbrev pub reads : Path → ℕ → ℕ → Site → Act → List Access → Site → Piece
   reads path n k source end [] next = way source end next
   reads path n k source end (a ∷ targets) next =
-      let m = made r path k source (access_calls a) in
+      let m = made t r path k source (access_calls a) in
       let past = site kind.AfterRead n path in
-      both m.piece (both (way m.here (act.Read a) past) (both (point_of past (out-Access a).at) (reads path (suc n) m.number past end targets next)))
+      both m.piece (both (judged m.here (read_checks t (access_type t a) a)) (both (way m.here (act.Read a) past) (both (point_of past (out-Access a).at) (reads path (suc n) m.number past end targets next))))
 
   abbrev pub place_of_written : WriteValue → ℕ
   place_of_written (written.Value e) = (out-Expr e).first
@@ -151,9 +175,9 @@ module _ (r : ℕ) where
   abbrev pub writes : Path → ℕ → ℕ → Site → Act → List WriteItem → Site → Piece
   writes path n k source end [] next = way source end next
   writes path n k source end (item ∷ items) next =
-      let m = made r path k source (item_calls item) in
+      let m = made t r path k source (item_calls item) in
       let past = site kind.AfterWrite n path in
-      both m.piece (both (way m.here (act.Write item) past) (both (point_of past (place_of_written item.value)) (writes path (suc n) m.number past end items next)))
+      both m.piece (both (judged m.here (item_checks t item)) (both (way m.here (act.Write item) past) (both (point_of past (place_of_written item.value)) (writes path (suc n) m.number past end items next))))
 
   -- the arms of a `case`, of which the first is the n-th, from the point where the selector is evaluated
   abbrev pub arms_from : ℕ → Expr → Site → List (List ℤ × Placing) → Placing
@@ -173,7 +197,7 @@ module _ (r : ℕ) where
   loop_piece control bound first down final at body path next =
       let inside = before (inner path 0) in
       let step = site kind.Step 0 path in
-      both (action path (before path) (expr_calls first ++ expr_calls final) (λ here.
+      both (action path (before path) (expr_calls first ++ expr_calls final) (bounds_checks t (var_type t control) first final) (λ here.
       both (way here (act.Enter control bound first down final) inside) (way here (act.Bypass control bound first down final) next)))
       (both (body (inner path 0) step)
       (both (point_of step at)
@@ -182,19 +206,18 @@ module _ (r : ℕ) where
   -- what follows the point before a statement, by the kind of the statement
   abbrev pub body_step : (ℕ → ℕ → Site) → Body-F (ℕ → Placing) (List ℤ × Placing) Placing → ℕ → Placing
   body_step label Body-F.Empty at path next = way (before path) act.Skip next
-  body_step label (Body-F.Assign target value) at path next = action path (before path) (access_calls target ++ expr_calls value) (λ here. way here (act.Assign target value) next)
-  body_step label (Body-F.Copy target source) at path next = action path (before path) (access_calls target ++ access_calls source) (λ here. way here (act.Copy target source) next)
+  body_step label (Body-F.Assign target value) at path next = action path (before path) (access_calls target ++ expr_calls value) (access_checks t target ++ assigned_checks t (access_type t target) value) (λ here. way here (act.Assign target value) next)
+  body_step label (Body-F.Copy target source) at path next = action path (before path) (access_calls target ++ access_calls source) (access_checks t target ++ access_checks t source) (λ here. way here (act.Copy target source) next)
   body_step label (Body-F.Call routine actuals name) at path next =
-      action path (before path) (actuals_calls actuals) (λ here.
       let c : CallSite = record { routine = routine; actuals = actuals; slot = None; at = name } in
-      record { points = []; links = link here (calls c) (entry_of routine) ∷ link (exit_of routine) (returns here) next ∷ [] })
+      action path (before path) (actuals_calls actuals) (call_checks t c) (λ here. call_links c here next)
   body_step label (Body-F.Read targets line) at path next = reads path 0 0 (before path) (line_act line act.DropLine) targets next
   body_step label (Body-F.Write items line) at path next = writes path 0 0 (before path) (line_act line act.EndLine) items next
   body_step label (Body-F.Goto routine number) at path next = way (before path) (act.Goto routine) (label routine number)
   body_step label (Body-F.Begin body end) at path next = both (way (before path) act.Skip (before (inner path 0))) (in_order 0 body path next)
   body_step label (Body-F.If cond first second) at path next =
       both (condition path (before path) cond (before (inner path 0)) (second_branch second path next)) (both (first (inner path 0) next) (second_piece second path next))
-  body_step label (Body-F.Case selector arms) at path next = action path (before path) (expr_calls selector) (λ here. arms_from 0 selector here arms path next)
+  body_step label (Body-F.Case selector arms) at path next = action path (before path) (expr_calls selector) (selector_checks t selector) (λ here. arms_from 0 selector here arms path next)
   body_step label (Body-F.While cond body) at path next = both (condition path (before path) cond (before (inner path 0)) next) (body (inner path 0) (before path))
   body_step label (Body-F.Repeat body until cond) at path next =
       both (way (before path) act.Skip (before (inner path 0)))
@@ -203,24 +226,25 @@ module _ (r : ℕ) where
   body_step label (Body-F.For control bound first down final body) at path next = loop_piece control bound first down final at body path next
 
   abbrev pub statement_step : (ℕ → ℕ → Site) → Statement-F (ℕ → Placing) (List ℤ × Placing) Placing → Placing
-  statement_step label s path next = both (point_of (before path) s.at) (s.body s.at path next)
+  statement_step label s path next = both (point_of (before path) s.at) (both (judged (before path) (assert_checks asserts s.asserts)) (s.body s.at path next))
 
   abbrev pub statement_piece : (ℕ → ℕ → Site) → Statement → Placing
   statement_piece label = fold-Statement (ℕ → Placing) (List ℤ × Placing) Placing (body_step label) (λ a. (a.consts, a.body)) (statement_step label)
 
   -- the statement part of a routine, with its `begin` and its `end`
-  abbrev pub block_piece : (ℕ → ℕ → Site) → ℕ → Body-F Body Arm Statement → Piece
-  block_piece label begin (Body-F.Begin body end) =
+  abbrev pub block_piece : (ℕ → ℕ → Site) → ℕ → Option ℕ → Body-F Body Arm Statement → Piece
+  block_piece label begin result (Body-F.Begin body end) =
       both (point_of (entry_of r) begin)
       (both (way (entry_of r) act.Skip (before (inner [] 0)))
-      (both (in_order 0 (map (statement_piece label) body) [] (exit_of r)) (point_of (exit_of r) end)))
-  block_piece label begin _ = nothing
+      (both (in_order 0 (map (statement_piece label) body) [] (exit_of r))
+      (both (point_of (exit_of r) end) (judged (exit_of r) (result_checks result end)))))
+  block_piece label begin result _ = nothing
 
 -- all routines, of which the first has the number r
-abbrev pub routines_piece : (ℕ → ℕ → Site) → ℕ → List Routine → Piece
-routines_piece label r [] = nothing
-routines_piece label r (d ∷ routines) =
-    both (block_piece r label (out-Statement d.body).at (out-Body (out-Statement d.body).body)) (routines_piece label (suc r) routines)
+abbrev pub routines_piece : Tables → List Assert → (ℕ → ℕ → Site) → ℕ → List Routine → Piece
+routines_piece t asserts label r [] = nothing
+routines_piece t asserts label r (d ∷ routines) =
+    both (block_piece t asserts r label (out-Statement d.body).at d.result (out-Body (out-Statement d.body).body)) (routines_piece t asserts label (suc r) routines)
 
 -- ---- labels: each names the statement that has it, by its path in the routine's body (ISO 7185, 6.8.1)
 
@@ -269,8 +293,8 @@ label_site routines r n = record { routine = r; path = path_of (routine_labels r
 
 -- ---- numbers: a point's is its place among all points in their order, and a call's is that of its edge
 
-abbrev pub program_piece : List Routine → Piece
-program_piece routines = routines_piece (label_site routines) 0 routines
+abbrev pub program_piece : Program → Piece
+program_piece p = routines_piece (tables p) p.asserts (label_site p.routines) 0 p.routines
 
 abbrev pub same_kind : PointKind → PointKind → Bool
 same_kind kind.Entry kind.Entry = true
@@ -312,7 +336,11 @@ point_at p = record { routine = p.site.routine; kind = p.site.kind; at = p.at }
 abbrev pub edge_at : Piece → Link → Edge
 edge_at piece l = record { from = point_number piece.points l.source; act = act_of piece.links l.deed; to = point_number piece.points l.target }
 
--- these are the points and edges of the program, in this order
-pub record IsFlowOf (routines : List Routine) (points : List Point) (edges : List Edge) : Type 0 where
-  pub points_are : points ≡ map point_at (program_piece routines).points
-  pub edges_are : edges ≡ map (edge_at (program_piece routines)) (program_piece routines).links
+abbrev pub check_at : Piece → Judged → Check
+check_at piece j = record { kind = j.fault.kind; at = j.fault.at; point = point_number piece.points j.site }
+
+-- these are the points, edges and checks of the program, in this order
+pub record IsFlowOf (p : Program) (points : List Point) (edges : List Edge) (checks : List Check) : Type 0 where
+  pub points_are : points ≡ map point_at (program_piece p).points
+  pub edges_are : edges ≡ map (edge_at (program_piece p)) (program_piece p).links
+  pub checks_are : checks ≡ map (check_at (program_piece p)) (program_piece p).checks
