@@ -8,3 +8,4 @@ pub mod Steps
 pub mod Tables
 pub mod Turning
 pub mod OneOutcome
+pub mod Worked

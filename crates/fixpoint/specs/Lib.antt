@@ -4,3 +4,4 @@ pub mod Members
 pub mod Passing
 pub mod Progress
 pub mod System
+pub mod Worked

@@ -11,3 +11,6 @@ pub use ascent::ascend;
 pub use descent::descend;
 pub use equations::Equations;
 pub use uniqueness::solutions_are_unique;
+
+#[cfg(test)]
+mod tests;

@@ -3,5 +3,6 @@ mod Signs
 mod Between
 mod Quotients
 mod Remainders
+mod Sizes
 mod Sound
 mod SoundUnary

@@ -14,8 +14,7 @@ use Rattle.arithmetic.specs.Operators.{binary_result, checked}
 use Rattle.interval.specs.declared.itv.Itv.{Itv}
 use Rattle.interval.specs.declared.answer.Answer.{Answer}
 use Rattle.interval.specs.Answers.{clipped, clipped_between}
-use Rattle.interval.specs.Ends.{least_of, greatest_of}
-use Rattle.interval.specs.Forward.{binary_table, binary_answer, quotients, quotient_hull, remainders, above_zero, below_zero, truths, can_be_equal, can_differ, can_be_less, can_be_at_most}
+use Rattle.interval.specs.Forward.{least_product, greatest_product, binary_table, binary_answer, quotients, quotient_hull, remainders, above_zero, below_zero, truths, can_be_equal, can_differ, can_be_less, can_be_at_most}
 use Rattle.interval.specs.Intervals.{IsIn, is_in, is_empty, numbers, positives, negatives, meet, join}
 use Rattle.interval.specs.IntervalLaws.{number_of, some_number, empty_has_none, meet_has, join_above_left, join_above_right, within_has, below_min, above_max}
 use Rattle.interval.specs.Same.{interval_has}
@@ -83,8 +82,7 @@ module _ (lo hi z : ℤ) (a : lo ≤ℤ z) (b : z ≤ℤ hi) where
 -- ---- products
 
 module _ (x y : Itv) (a b : ℤ) (i : IsIn x a) (j : IsIn y b) where
-  product_ends : (least_of (x.lo *ℤ y.lo) (x.lo *ℤ y.hi) (x.hi *ℤ y.lo) (x.hi *ℤ y.hi) ≤ℤ (a *ℤ b))
-      × ((a *ℤ b) ≤ℤ greatest_of (x.lo *ℤ y.lo) (x.lo *ℤ y.hi) (x.hi *ℤ y.lo) (x.hi *ℤ y.hi))
+  pub product_ends : (least_product x y ≤ℤ (a *ℤ b)) × ((a *ℤ b) ≤ℤ greatest_product x y)
   product_ends =
       four_ends _ _ _ _ (x.lo *ℤ b) (x.hi *ℤ b) (a *ℤ b) (product_between x.lo x.hi a b i.0 i.1)
       (product_between' y.lo y.hi x.lo b j.0 j.1) (product_between' y.lo y.hi x.hi b j.0 j.1)

@@ -21,13 +21,14 @@ clip x range = record { value = meet x range; holds = is_within x range }
 -- ---- sums, products, quotients and remainders
 
 -- a product is least and greatest at ends of the operands
+abbrev pub least_product : Itv → Itv → ℤ
+least_product x y = least_of (x.lo *ℤ y.lo) (x.lo *ℤ y.hi) (x.hi *ℤ y.lo) (x.hi *ℤ y.hi)
+
+abbrev pub greatest_product : Itv → Itv → ℤ
+greatest_product x y = greatest_of (x.lo *ℤ y.lo) (x.lo *ℤ y.hi) (x.hi *ℤ y.lo) (x.hi *ℤ y.hi)
+
 abbrev pub product : Itv → Itv → Answer
-product x y =
-    let p = x.lo *ℤ y.lo in
-    let q = x.lo *ℤ y.hi in
-    let r = x.hi *ℤ y.lo in
-    let s = x.hi *ℤ y.hi in
-    clipped numbers (least_of p q r s) (greatest_of p q r s)
+product x y = clipped numbers (least_product x y) (greatest_product x y)
 
 -- a quotient by numbers of one sign is least and greatest at ends of the operands
 abbrev pub quotient_hull : Itv → Itv → Itv

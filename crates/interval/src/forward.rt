@@ -8,7 +8,9 @@ use crate::tables::{binary_answer, unary_answer};
 use crate::{Answer, Itv};
 use px_base::{BinOp, UnOp};
 
-/// What `x op y` gives.
+/// What `x op y` gives: an interval around the results at numbers of `x` and `y`, and whether none of them is an error.
+///
+/// Without numbers of an operand the value is empty and the check holds.
 pub fn binary(op: BinOp, x: Itv, y: Itv) -> Answer
     ensures answer { result ≡ binary_answer op x y }
     ensures sound { HasBinaryResults op x y result.value }
@@ -17,7 +19,9 @@ pub fn binary(op: BinOp, x: Itv, y: Itv) -> Answer
     binary_answer(op, x, y)
 }
 
-/// What `op` gives at `x`.
+/// What `op` gives at `x`: an interval around the results at numbers of `x`, and whether none of them is an error.
+///
+/// `not` has results for Booleans alone, and its check always holds.
 pub fn unary(op: UnOp, x: Itv) -> Answer
     ensures answer { result ≡ unary_answer op x }
     ensures sound { HasUnaryResults op x result.value }

@@ -6,10 +6,13 @@ mod ends;
 mod forward;
 mod itv;
 mod tables;
+#[cfg(test)]
+mod tests;
 mod val;
 mod val_lattice;
 
 pub use answer::Answer;
+pub use ends::product_ends;
 pub use forward::{binary, clip, unary};
 pub use itv::Itv;
 pub use val::Val;

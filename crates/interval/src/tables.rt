@@ -4,7 +4,7 @@ ghost use Rattle.interval.specs.Answers.{always, clipped};
 ghost use Rattle.interval.specs.Intervals.{is_in, is_empty, empty};
 ghost use Rattle.interval.specs.Forward.{binary_answer, binary_table, unary_answer, unary_table, product, quotients, quotient, quotient_hull, above_zero, below_zero, remainders, remainder, is_in_one_block, remainders_in_block, remainders_over_blocks, truths, can_be_equal, can_differ, magnitude, opposite, negation, parity, square};
 
-use crate::ends::{greatest_of, least_of, over, times};
+use crate::ends::{greatest_of, least_of, over, product_ends, times};
 use crate::{Answer, Itv};
 use px_base::{BinOp, UnOp};
 
@@ -93,9 +93,8 @@ fn difference(x: Itv, y: Itv) -> Answer
 fn product(x: Itv, y: Itv) -> Answer
     ensures { result ≡ product x y }
 {
-    let (p, q) = (times(x.lo, y.lo), times(x.lo, y.hi));
-    let (r, s) = (times(x.hi, y.lo), times(x.hi, y.hi));
-    Answer::clipped(Itv::NUMBERS, least_of(p, q, r, s), greatest_of(p, q, r, s))
+    let (least, greatest) = product_ends(x, y);
+    Answer::clipped(Itv::NUMBERS, least, greatest)
 }
 
 fn quotient(x: Itv, y: Itv) -> Answer

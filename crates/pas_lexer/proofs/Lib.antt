@@ -1,2 +1,12 @@
+pub mod Comments
+pub mod Coverings
 pub mod Digits
+pub mod Forms
+pub mod Found
+pub mod Marks
+pub mod Names
+pub mod Numbers
+pub mod Reached
+pub mod Rising
+pub mod Strings
 pub mod Words

@@ -1,5 +1,5 @@
--- How the piece at the front of a text is found from its first byte on. `proofs/` says that it is the piece of `Covering`.
-use Rattle.std.specs.Prelude.{ℕ, ◌+◌, ◌≤◌, Bool, true, false, not, ◌&&◌, ◌||◌, ◌==◌, nat_le, nat_lt, if◌then◌else◌, List, [], ◌∷◌, take, drop, slice_index, Option, Some, None}
+-- How the piece at the front of a text is found from its first byte on. `proofs/Found.antt` proves that it is the piece of `Covering`.
+use Rattle.std.specs.Prelude.{ℕ, ◌+◌, Bool, false, not, ◌&&◌, ◌||◌, ◌==◌, nat_le, if◌then◌else◌, List, [], ◌∷◌, take, drop, slice_index, Option, Some, None}
 use Rattle.std.specs.Char.{is_ascii_alphabetic, is_ascii_digit}
 use Rattle.std.specs.List.{filter, prefix_len}
 use Rattle.std.specs.Option.{option_map, option_map_or}

@@ -2,7 +2,6 @@
 use Rattle.std.specs.Prelude.{◌≤◌, ◌<◌, ℕ}
 use Rattle.std.specs.List.{All, AllPairs}
 use Rattle.std.specs.Prelude.{List}
-use Rattle.px_base.specs.declared.place.Span.{Span}
 use Rattle.pas_lexer.specs.declared.token.Token.{Token}
 use Rattle.pas_lexer.specs.declared.token.TokenKind.{TokenKind}
 use Rattle.pas_lexer.specs.declared.token.TokenKind.TheVariants as kind

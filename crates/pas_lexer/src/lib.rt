@@ -5,9 +5,14 @@ mod fault;
 mod piece;
 mod scan;
 mod token;
+mod uniqueness;
 mod word;
 
 pub use fault::LexFault;
 pub use scan::lex;
 pub use token::{Symbol, Token, TokenKind};
+pub use uniqueness::a_text_has_one_covering;
 pub use word::Word;
+
+#[cfg(test)]
+mod tests;

@@ -43,7 +43,11 @@ fn is_line_end(b: u8) -> bool
 fn is_name_byte(b: u8) -> bool
     ensures { result ≡ lexeme.is_name_byte b }
 {
-    b.is_ascii_alphabetic() || b.is_ascii_digit() || b == b'_'
+    if b >= b'a' {
+        b <= b'z'
+    } else {
+        b.is_ascii_uppercase() || b.is_ascii_digit() || b == b'_'
+    }
 }
 
 fn name_len(rest: &[u8]) -> usize
@@ -200,45 +204,37 @@ fn comment(rest: &[u8]) -> Option<Piece>
     Some(Piece { token: None, len })
 }
 
-#[tactic(auto, unfolding(crate::specs::Lexeme::symbol_of))]
-fn pair(first: u8, second: u8) -> Option<Symbol>
-    ensures value { result ≡ lexeme.symbol_of (first ∷ second ∷ []) }
-    ensures bytes { IfSome result (λ _. (first ≢ 0) × (second ≢ 0)) }
+/// The special symbol that begins with these two bytes, and its length.
+#[tactic(auto, unfolding(crate::specs::Scan::symbol, crate::specs::Lexeme::symbol_of))]
+fn symbol(first: u8, second: u8) -> Option<Piece>
+    ensures value { result ≡ scan.symbol first second }
+    ensures within { IfSome result (λ piece. (0 < piece.len) × (piece.len ≤ 2) × (first ≢ 0) × (second ≡ 0 → piece.len ≡ 1)) }
 {
-    match (first, second) {
-        (b'<', b'>') => Some(Symbol::NotEqual),
-        (b'<', b'=') => Some(Symbol::LessEqual),
-        (b'>', b'=') => Some(Symbol::GreaterEqual),
-        (b':', b'=') => Some(Symbol::Assign),
-        (b'.', b'.') => Some(Symbol::DotDot),
-        (b'(', b'.') => Some(Symbol::LeftBracket),
-        (b'.', b')') => Some(Symbol::RightBracket),
-        _ => None,
-    }
-}
-
-#[tactic(auto, unfolding(crate::specs::Lexeme::symbol_of))]
-fn single(first: u8) -> Option<Symbol>
-    ensures value { result ≡ lexeme.symbol_of (first ∷ []) }
-    ensures first { IfSome result (λ _. first ≢ 0) }
-{
-    match first {
-        b'+' => Some(Symbol::Plus),
-        b'-' => Some(Symbol::Minus),
-        b'*' => Some(Symbol::Star),
-        b'=' => Some(Symbol::Equal),
-        b'<' => Some(Symbol::Less),
-        b'>' => Some(Symbol::Greater),
-        b':' => Some(Symbol::Colon),
-        b';' => Some(Symbol::Semicolon),
-        b',' => Some(Symbol::Comma),
-        b'.' => Some(Symbol::Dot),
-        b'(' => Some(Symbol::LeftParen),
-        b')' => Some(Symbol::RightParen),
-        b'[' => Some(Symbol::LeftBracket),
-        b']' => Some(Symbol::RightBracket),
-        _ => None,
-    }
+    let (symbol, len) = match (first, second) {
+        (b'<', b'>') => (Symbol::NotEqual, 2),
+        (b'<', b'=') => (Symbol::LessEqual, 2),
+        (b'>', b'=') => (Symbol::GreaterEqual, 2),
+        (b':', b'=') => (Symbol::Assign, 2),
+        (b'.', b'.') => (Symbol::DotDot, 2),
+        (b'(', b'.') => (Symbol::LeftBracket, 2),
+        (b'.', b')') => (Symbol::RightBracket, 2),
+        (b'+', _) => (Symbol::Plus, 1),
+        (b'-', _) => (Symbol::Minus, 1),
+        (b'*', _) => (Symbol::Star, 1),
+        (b'=', _) => (Symbol::Equal, 1),
+        (b'<', _) => (Symbol::Less, 1),
+        (b'>', _) => (Symbol::Greater, 1),
+        (b':', _) => (Symbol::Colon, 1),
+        (b';', _) => (Symbol::Semicolon, 1),
+        (b',', _) => (Symbol::Comma, 1),
+        (b'.', _) => (Symbol::Dot, 1),
+        (b'(', _) => (Symbol::LeftParen, 1),
+        (b')', _) => (Symbol::RightParen, 1),
+        (b'[', _) => (Symbol::LeftBracket, 1),
+        (b']', _) => (Symbol::RightBracket, 1),
+        _ => return None,
+    };
+    lexeme(TokenKind::Symbol(symbol), len)
 }
 
 fn lexeme(kind: TokenKind, len: usize) -> Option<Piece>
@@ -248,18 +244,6 @@ fn lexeme(kind: TokenKind, len: usize) -> Option<Piece>
         token: Some(kind),
         len,
     })
-}
-
-#[tactic(auto, unfolding(crate::specs::Scan::symbol))]
-fn symbol(first: u8, second: u8) -> Option<Piece>
-    ensures value { result ≡ scan.symbol first second }
-    ensures within { IfSome result (λ piece. (0 < piece.len) × (piece.len ≤ 2) × (first ≢ 0) × (second ≡ 0 → piece.len ≡ 1)) }
-{
-    if let Some(symbol) = pair(first, second) {
-        return lexeme(TokenKind::Symbol(symbol), 2);
-    }
-    let symbol = single(first)?;
-    lexeme(TokenKind::Symbol(symbol), 1)
 }
 
 #[tactic(auto, unfolding(crate::specs::Scan::mark))]

@@ -1,12 +1,14 @@
 //! A text becomes its tokens.
 
-ghost use Rattle.std.specs.Prelude.{◌≡◌, ◌≤◌, ◌+◌, ◌<◌, ◌^◌, ◌++◌, length, IfOk, IfErr, OnOk, vec_len};
+ghost use Rattle.std.specs.Prelude.{◌≡◌, ◌≤◌, ◌+◌, ◌<◌, ◌++◌, ℕ, length, drop, Option, is_some, IfOk, IfErr, OnOk, OnErr};
 ghost use Rattle.std.specs.Option.{option_to_list, option_map};
 ghost use Rattle.pas_lexer.specs.Covering as covering;
+ghost use Rattle.pas_lexer.specs.Covering.{HasTokens, Refuses};
 ghost use Rattle.pas_lexer.specs.Spans.{SpansRise, NumbersFit};
+ghost use Rattle.pas_lexer.specs.declared.token.TokenKind.{TokenKind};
 
 use crate::fault::LexFault;
-use crate::piece::{byte_at, next_piece, opens_comment};
+use crate::piece::{Piece, byte_at, next_piece, opens_comment};
 use crate::token::{Token, TokenKind};
 use px_base::Span;
 use std::alloc::{AllocError, Global};
@@ -23,6 +25,22 @@ fn fault_at(inside: bool, rest: &[u8], at: u32) -> LexFault
         LexFault::TooBig { at }
     } else {
         LexFault::BadByte { at }
+    }
+}
+
+/// The piece that begins at a place of a text, or the fault that none does.
+fn piece_at(opened: Option<u32>, text: &[u8], at: usize) -> Result<Piece, LexFault>
+    requires within { at < length text.now }
+    requires small { length text.now ≤ 1048576 }
+    ensures piece { IfOk result (λ piece. covering.IsPiece (is_some opened) (drop at text.now) piece.token piece.len) }
+    ensures within { IfOk result (λ piece. (0 < piece.len) × (at + piece.len ≤ length text.now)) }
+    ensures none { OnErr result ((token : Option TokenKind) (len : ℕ) → ¬ covering.IsPiece (is_some opened) (drop at text.now) token len) }
+    ensures fault { IfErr result (λ fault. fault ≡ covering.fault_at (is_some opened) (drop at text.now) at) }
+{
+    let rest = &text[at..];
+    match next_piece(opened.is_some(), rest) {
+        Some(piece) => Ok(piece),
+        None => Err(fault_at(opened.is_some(), rest, at as u32)),
     }
 }
 
@@ -48,17 +66,24 @@ fn append(tokens: &mut Vec<Token>, token: Option<TokenKind>, span: Span) -> Resu
 }
 
 /// The tokens of a text of at most 1,048,576 bytes, in one pass.
+///
+/// # Errors
+///
+/// The first lexical fault of the text, where an assertion that is open at the end comes after all others; or
+/// `Memory`, which no clause ties to a text.
 pub fn lex(alloc: Global, text: &[u8]) -> Result<Vec<Token>, LexFault>
     requires { length text.now ≤ 1048576 }
+    ensures tokens { IfOk result (λ tokens. HasTokens text.now tokens.items) }
+    ensures refused { IfErr result (λ fault. Refuses text.now fault) }
+    ensures spans { IfOk result (λ tokens. SpansRise (length text.now) tokens.items) }
+    ensures numbers { IfOk result (λ tokens. NumbersFit tokens.items) }
+    ensures few { IfOk result (λ tokens. length tokens.items ≤ length text.now) }
 {
     let mut tokens = Vec::new(alloc);
     let mut opened = None;
     let mut at = 0;
     while at < text.len() {
-        let rest = &text[at..];
-        let Some(piece) = next_piece(opened.is_some(), rest) else {
-            return Err(fault_at(opened.is_some(), rest, at as u32));
-        };
+        let piece = piece_at(opened, text, at)?;
         let end = at + piece.len;
         let span = Span {
             start: at as u32,
@@ -71,45 +96,5 @@ pub fn lex(alloc: Global, text: &[u8]) -> Result<Vec<Token>, LexFault>
     match opened {
         Some(at) => Err(LexFault::OpenAssertion { at }),
         None => Ok(tokens),
-    }
-}
-
-#[cfg(test)]
-mod tests {
-    use super::*;
-    use crate::token::Symbol;
-    use crate::word::Word;
-    use std::test::Fail;
-
-    const M: &[u8] = b"2147483647";
-
-    const FAULTS: [(&[u8], LexFault); 4] = [
-        (
-            b"program p; begin {% true",
-            LexFault::OpenAssertion { at: 17 },
-        ),
-        (b"1 2147483648", LexFault::TooBig { at: 2 }),
-        (
-            b"'a",
-            LexFault::Unclosed {
-                at: 0,
-                comment: false,
-            },
-        ),
-        (
-            b"x (* y",
-            LexFault::Unclosed {
-                at: 2,
-                comment: true,
-            },
-        ),
-    ];
-
-    #[test]
-    fn faults(rt: HostRuntime) -> Result<(), Fail> {
-        for (text, fault) in FAULTS {
-            assert_eq!(rt; lex(rt.alloc(), text), Err(fault));
-        }
-        Ok(())
     }
 }

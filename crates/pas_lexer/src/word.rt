@@ -102,6 +102,9 @@ const V: Rows = &[(b"var", Word::WVar)];
 
 const W: Rows = &[(b"while", Word::WWhile), (b"with", Word::WWith)];
 
+/// The length of the shortest word symbols: many names have one letter.
+const SHORTEST: usize = 2;
+
 /// A name in small letters is this spelling.
 fn is_spelt(name: &[u8], spelling: &[u8]) -> bool
     ensures { result ≡ bytes_eq spelling.now (str_to_ascii_lowercase name.now) }
@@ -163,5 +166,8 @@ pub fn word_of(name: &[u8]) -> Option<Word>
     requires { 0 < length name.now }
     ensures { result ≡ lexeme.word_of name.now }
 {
+    if name.len() < SHORTEST {
+        return None;
+    }
     lookup(words_of(name[0].to_ascii_lowercase()), name)
 }

@@ -1,3 +1,12 @@
+pub mod Advance
 pub mod Chain
+pub mod Counted
+pub mod Elements
+pub mod Fitting
+pub mod Layers
 pub mod Levels
 pub mod Loops
+pub mod Ordered
+pub mod Rules
+pub mod Sound
+pub mod Whole

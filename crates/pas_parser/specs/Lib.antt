@@ -1,10 +1,15 @@
 pub mod Block
 pub mod Constant
+pub mod Depth
+pub mod Each
 pub mod Expr
+pub mod Grammar
 pub mod Look
 pub mod Loop
 pub mod Operator
+pub mod Order
 pub mod Outcome
+pub mod Parts
 pub mod Program
 pub mod Reading
 pub mod Statement

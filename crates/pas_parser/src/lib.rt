@@ -14,6 +14,8 @@ mod operator;
 mod program;
 mod reading;
 mod statement;
+#[cfg(test)]
+mod tests;
 mod type_expr;
 
 pub use fault::ParseFault;

@@ -1,3 +1,6 @@
+pub mod Adjacency
+pub mod Check
 pub mod Edges
 pub mod Order
 pub mod Parts
+pub mod Walk

@@ -1,4 +1,5 @@
 ghost use Rattle.std.specs.Prelude.{◌≡◌, ◌<◌, [], ◌∷◌, ◌++◌, IfOk, OnOk, OnErr};
+ghost use Rattle.std.specs.List.{All};
 
 use std::alloc::{AllocError, Global};
 use std::marker::Model;
@@ -49,7 +50,8 @@ impl Edges {
     }
 
     pub(crate) fn pairs(&self) -> &[(u32, u32)]
-        ensures { result.now ≡ self.now.pairs }
+        ensures value { result.now ≡ self.now.pairs }
+        ensures in_range { All (λ pair. (pair.0 < self.now.nodes) × (pair.1 < self.now.nodes)) result.now }
     {
         self.pairs.as_slice()
     }

@@ -1,4 +1,4 @@
-use Rattle.std.proofs.Common.{◌≡◌, suc, ◌+◌, ◌-◌, ◌*◌, ◌∷◌, drop, get_or, arith, drop-cons}
+use Rattle.std.proofs.Common.{suc, ◌+◌, ◌-◌, ◌*◌, drop, get_or, arith, drop-cons}
 use Rattle.pas_lexer.proofs.Digits.{decimal_after-grows}
 use Rattle.pas_lexer.proofs.piece.value_of.Goals as goal
 

@@ -1,5 +1,5 @@
-ghost use Rattle.std.specs.Prelude.{◌≡◌, ◌<◌, length, slice_index, IsTrue, ◌↔◌};
-ghost use Rattle.weak_order.specs.Order.{AreColumns};
+ghost use Rattle.std.specs.Prelude.{◌≡◌, ℕ, ◌<◌, length, slice_index, nat_lt};
+ghost use Rattle.weak_order.specs.Order.{AreColumns, depth_at};
 
 use std::marker::Model;
 
@@ -61,6 +61,7 @@ impl Order {
     /// How many components contain the node.
     pub fn depth(&self, node: u32) -> u32
         requires { node < length self.now.nodes }
+        ensures { (p : ℕ) → p < length self.now.nodes → slice_index self.now.nodes p ≡ node → result ≡ depth_at self.now.ends p }
     {
         self.depths[node as usize]
     }
@@ -68,6 +69,7 @@ impl Order {
     /// Whether the node is the head of a component.
     pub fn is_head(&self, node: u32) -> bool
         requires { node < length self.now.nodes }
+        ensures { (p : ℕ) → p < length self.now.nodes → slice_index self.now.nodes p ≡ node → result ≡ nat_lt p (slice_index self.now.ends p) }
     {
         self.heads[node as usize]
     }

@@ -1,0 +1,17 @@
+pub mod Actions
+pub mod Acts
+pub mod Calls
+pub mod Chart
+pub mod Checking
+pub mod Evaluation
+pub mod Finding
+pub mod Fits
+pub mod Flows
+pub mod Input
+pub mod Output
+pub mod Runs
+pub mod Sites
+pub mod States
+pub mod Steps
+pub mod Storage
+pub mod ValidStates

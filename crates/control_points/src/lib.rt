@@ -1,0 +1,25 @@
+//! The control-flow graph of a checked program, and what the program means.
+//!
+//! A run stands at a point. Edges lead from point to point, each with one action: an assignment, a test, a call and so
+//! on. `build` gives a program's points, edges and runtime checks. The definitions in `specs/` say over these what a
+//! store, a state, a step and a run are.
+//!
+//! A point, edge, check, variable, routine or assertion is a number, counted from 0, into the list of its kind. A place is
+//! a byte offset from 0 into the source.
+#![tactic(auto)]
+
+mod check;
+mod edge;
+mod fault;
+mod flow;
+mod item;
+mod laws;
+mod point;
+
+pub use check::Check;
+pub use edge::{Act, Edge};
+pub use fault::Fault;
+pub use flow::Flow;
+pub use item::Item;
+pub use laws::earlier_is_on_the_way;
+pub use point::{Point, PointKind};

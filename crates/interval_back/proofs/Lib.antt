@@ -1,0 +1,9 @@
+mod Equal
+mod Kept
+mod KeptOne
+mod Logical
+mod Possible
+mod Products
+mod Rows
+mod Squares
+mod Within

@@ -1,0 +1,8 @@
+pub mod Block
+pub mod Constant
+pub mod Expr
+pub mod Lists
+pub mod Program
+pub mod Statement
+pub mod TypeExpr
+pub mod Word

@@ -1,0 +1,6 @@
+pub mod Below
+pub mod Depth
+pub mod Enough
+pub mod Lists
+pub mod One
+pub mod Weak

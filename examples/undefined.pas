@@ -1,0 +1,5 @@
+program undefined;
+var x, y: integer;
+begin
+  y := x
+end.
