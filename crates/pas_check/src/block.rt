@@ -1,0 +1,146 @@
+//! Blocks and their declarations (ISO 7185, 6.2).
+
+use crate::checker::Checker;
+use crate::fault::{Fault, Rule};
+use crate::frame::Frame;
+use crate::label::place_sequence;
+use crate::meaning::Meaning;
+use crate::plan::Plan;
+use crate::scope::Scope;
+use pas_program::{Body, Statement, VarKind};
+use pas_tree::{Block, ConstDecl, Routine, RoutineBody, Tree, TypeDecl, VarDecl};
+use sqlite_items::Items;
+use std::alloc::AllocError;
+
+impl<'t> Checker<'t> {
+    /// The program's block.
+    pub fn program(&mut self, tree: &Tree) -> Result<(), Fault> {
+        let mut scope = Scope::new(self.alloc, self.frame.routine);
+        self.note_block(&mut scope, &tree.block)?;
+        self.push_scope(scope)?;
+        let body = self.block(&tree.block, None)?;
+        let empty = Frame::new(
+            self.alloc,
+            tree.name,
+            0,
+            None,
+            0,
+            Items::new(self.alloc),
+            None,
+        );
+        let done = self.exchange_frame(empty);
+        self.add_routine(done, body)
+    }
+
+    pub fn add_routine(&mut self, done: Frame, body: Statement) -> Result<(), Fault> {
+        let vars = done.variables(self.alloc).map_err(Fault::Memory)?;
+        self.routines
+            .push(done.finish(vars, body))
+            .map_err(Fault::Memory)
+    }
+
+    /// A block whose names are noted, with the tests at its end: its statement part.
+    #[cycle(block)]
+    pub fn block(&mut self, block: &Block, head: Option<usize>) -> Result<Statement, Fault> {
+        self.label_part(block.labels.as_slice())?;
+        self.place_labels(block).map_err(Fault::Memory)?;
+        self.const_part(block.consts.as_slice())?;
+        self.type_part(block.types.as_slice())?;
+        self.var_part(block.vars.as_slice())?;
+        let plans = self.plans(block.routines.as_slice())?;
+        self.routine_part(block.routines.as_slice(), plans.as_slice())?;
+        let body = self.sequence(block.body.as_slice())?;
+        self.end_of_block(head)?;
+        Ok(Statement {
+            at: block.begin.start,
+            label: None,
+            asserts: Items::new(self.alloc),
+            body: Body::Begin {
+                body,
+                end: block.end.start,
+            },
+        })
+    }
+
+    fn place_labels(&mut self, block: &Block) -> Result<(), AllocError> {
+        if let Some(scope) = self.scopes.last_mut() {
+            if !scope.labels.is_empty() {
+                let _ = place_sequence(&mut scope.labels, block.body.as_slice(), true)?;
+            }
+        }
+        Ok(())
+    }
+
+    fn const_part(&mut self, decls: &[ConstDecl]) -> Result<(), Fault> {
+        for decl in decls {
+            self.claim(decl.name)?;
+            let value = self.constant(&decl.value)?;
+            self.define(decl.name, Meaning::Constant(value))?;
+        }
+        Ok(())
+    }
+
+    fn type_part(&mut self, decls: &[TypeDecl]) -> Result<(), Fault> {
+        for decl in decls {
+            self.claim(decl.name)?;
+            let number = self.type_expr(&decl.of_type)?;
+            self.define(decl.name, Meaning::Type(number))?;
+        }
+        Ok(())
+    }
+
+    fn var_part(&mut self, decls: &[VarDecl]) -> Result<(), Fault> {
+        for decl in decls {
+            self.claim_names(decl.names.as_slice())?;
+            let of_type = self.type_expr(&decl.of_type)?;
+            for name in decl.names.as_slice() {
+                let variable = self.variable(*name, VarKind::Local, of_type)?;
+                self.define(*name, Meaning::Variable(variable))?;
+            }
+        }
+        Ok(())
+    }
+
+    #[cycle(block)]
+    fn routine_part(&mut self, routines: &[Routine], plans: &[Plan]) -> Result<(), Fault> {
+        let mut heads: Vec<usize> = Vec::new(self.alloc);
+        for (heading, routine) in routines.iter().enumerate() {
+            let Some(plan) = plans.get(heading).copied() else {
+                return Ok(());
+            };
+            let forward = plan.forward.and_then(|f| heads.get(f).copied());
+            let later = plan.body.and_then(|body| block_of(routines, body));
+            let head = self.routine(routine, plan, forward, later)?;
+            push(&mut heads, head).map_err(Fault::Memory)?;
+        }
+        Ok(())
+    }
+
+    /// The tests at the end of a block, in the order of their places, and the end of its names.
+    fn end_of_block(&mut self, head: Option<usize>) -> Result<(), Fault> {
+        self.result_assigned(head)?;
+        let scope = self.pop_scope(0);
+        for label in scope.labels.values() {
+            if label.placed.is_none() {
+                return Err(Rule::Label.broken(label.at));
+            }
+        }
+        for forward in scope.forwards.iter() {
+            self.body_given(*forward)?;
+        }
+        Ok(())
+    }
+}
+
+fn push(heads: &mut Vec<usize>, head: usize) -> Result<(), AllocError> {
+    heads.push(head)?;
+    Ok(())
+}
+
+/// The block of the heading at a place.
+fn block_of(routines: &[Routine], heading: usize) -> Option<&Block> {
+    match &routines.get(heading)?.body {
+        RoutineBody::Block(block) => Some(block),
+        RoutineBody::Word(_) => None,
+    }
+}

@@ -1,0 +1,32 @@
+//! The rules of names, types, labels and control variables (ISO 7185, 6.2 to 6.9): a tree becomes a checked program, or
+//! the first fault with its place.
+//!
+//! One walk goes through the tree in the order of the text and stops at the first test that fails. What a test needs of
+//! text that comes later (which names a block declares, where a label stands) is collected when the block is entered.
+#![tactic(auto)]
+
+mod access;
+mod actual;
+mod block;
+mod checker;
+mod constant;
+mod control;
+mod expr;
+mod fault;
+mod frame;
+mod label;
+mod meaning;
+mod names;
+mod plan;
+mod routine;
+mod scope;
+mod statement;
+mod transput;
+mod type_expr;
+mod types;
+
+pub use checker::check;
+pub use fault::CheckFault;
+
+#[cfg(test)]
+mod tests;

@@ -1,0 +1,5 @@
+pub mod Cases
+pub mod Lists
+pub mod Ranks
+pub mod Types
+pub mod Validity

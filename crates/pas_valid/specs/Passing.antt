@@ -1,0 +1,49 @@
+-- What is asked of each part of a program when its validity is decided.
+use Rattle.std.specs.Prelude.{ℕ, ◌+◌, Bool, true, ◌&&◌, length, nat_lt}
+use Rattle.pas_program.specs.Each.{Rule}
+use Rattle.pas_program.specs.Scopes.{scope_rule}
+use Rattle.pas_program.specs.Size.{Inner, body_sum_step, arm_sum_step, statement_sum_step}
+use Rattle.pas_program.specs.Tables.{Tables, tables_of, is_around, is_own}
+use Rattle.pas_program.specs.Typed.{Hosted, Reached, type_of_var}
+use Rattle.pas_program.specs.Types.{is_scalar}
+use Rattle.pas_program.specs.declared.statement.Arm.{Arm}
+use Rattle.pas_program.specs.declared.statement.Body.{Body}
+use Rattle.pas_program.specs.declared.statement.Body.TheFolds.{fold-Arm, fold-Body}
+use Rattle.pas_program.specs.declared.variable.VarKind.TheVariants as kind
+use Rattle.pas_valid.specs.declared.ground.Ground.{Ground}
+
+-- what the numbers of the parts stand for
+abbrev pub known : Ground → Tables
+known g = tables_of g.types.now g.vars.now g.routines.now
+
+-- what stands in routine r sees what it uses, a control variable is a scalar local of it, and there are so many
+-- routines and assertions
+abbrev pub placed_by : Tables → ℕ → ℕ → ℕ → Rule
+placed_by t routines asserts r = record (scope_rule t r) {
+  loop = λ control bound. (is_own t r kind.Local control && is_scalar (type_of_var t control)) && (scope_rule t r).loop control bound;
+  jump = λ s label. nat_lt s routines && is_around t r s;
+  assertion = λ a. nat_lt a asserts;
+}
+
+-- the same for the routine at hand
+abbrev pub placed : Ground → Rule
+placed g = placed_by (known g) (length g.routines.now) g.asserts g.routine
+
+-- an expression whose types fit has this host
+abbrev pub of_host : Bool → Hosted
+of_host b = record { fits = true; boolean = b }
+
+-- an access whose types fit reaches this type
+abbrev pub of_type : ℕ → Reached
+of_type n = record { fits = true; of_type = n }
+
+-- the parts of a body, and those of the statements in it
+abbrev pub body_inner : Body → Inner
+body_inner = fold-Body Inner ℕ ℕ body_sum_step arm_sum_step (statement_sum_step (λ label asserts parts. 1 + parts))
+
+abbrev pub body_size : Body → ℕ
+body_size b = (body_inner b).parts + (body_inner b).total
+
+-- the parts of an arm
+abbrev pub arm_size : Arm → ℕ
+arm_size = fold-Arm Inner ℕ ℕ body_sum_step arm_sum_step (statement_sum_step (λ label asserts parts. 1 + parts))
