@@ -1,4 +1,8 @@
 //! The function calls in expressions, in the order in which they are made (ISO 7185, 6.7.3).
+ghost use Rattle.std.specs.Prelude.{◌≡◌, ◌++◌, map, OnOk, IfOk};
+ghost use Rattle.control_points.specs.Calls.{expr_calls, access_calls, actual_calls, actuals_calls, exprs_calls, item_calls, written_calls};
+ghost use Rattle.control_points.specs.Called.{sites_of, own_calls};
+
 use pas_program::{Access, Actual, Body, Expr, ExprForm, WriteItem, WriteValue};
 use std::alloc::{AllocError, Global};
 
@@ -13,7 +17,9 @@ pub struct CallSite<'e> {
 }
 
 #[cycle(calls)]
-pub fn calls_in_expr<'e>(e: &'e Expr, sites: &mut Vec<CallSite<'e>>) -> Result<(), AllocError> {
+pub fn calls_in_expr<'e>(e: &'e Expr, sites: &mut Vec<CallSite<'e>>) -> Result<(), AllocError>
+    ensures { OnOk result (sites_of sites.new.items ≡ sites_of sites.old.items ++ expr_calls e.now) }
+{
     match &e.form {
         ExprForm::Const { .. } => Ok(()),
         ExprForm::Value(access) => calls_in_access(access, sites),
@@ -44,8 +50,17 @@ pub fn calls_in_expr<'e>(e: &'e Expr, sites: &mut Vec<CallSite<'e>>) -> Result<(
 pub fn calls_in_access<'e>(
     access: &'e Access,
     sites: &mut Vec<CallSite<'e>>,
-) -> Result<(), AllocError> {
-    for e in access.subscripts.as_slice() {
+) -> Result<(), AllocError>
+    ensures { OnOk result (sites_of sites.new.items ≡ sites_of sites.old.items ++ access_calls access.now) }
+{
+    calls_in_exprs(access.subscripts.as_slice(), sites)
+}
+
+#[cycle(calls)]
+fn calls_in_exprs<'e>(exprs: &'e [Expr], sites: &mut Vec<CallSite<'e>>) -> Result<(), AllocError>
+    ensures { OnOk result (sites_of sites.new.items ≡ sites_of sites.old.items ++ exprs_calls exprs.now) }
+{
+    for e in exprs {
         calls_in_expr(e, sites)?;
     }
     Ok(())
@@ -55,7 +70,9 @@ pub fn calls_in_access<'e>(
 pub fn calls_in_actuals<'e>(
     actuals: &'e [Actual],
     sites: &mut Vec<CallSite<'e>>,
-) -> Result<(), AllocError> {
+) -> Result<(), AllocError>
+    ensures { OnOk result (sites_of sites.new.items ≡ sites_of sites.old.items ++ actuals_calls actuals.now) }
+{
     for a in actuals {
         calls_in_actual(a, sites)?;
     }
@@ -63,7 +80,9 @@ pub fn calls_in_actuals<'e>(
 }
 
 #[cycle(calls)]
-fn calls_in_actual<'e>(a: &'e Actual, sites: &mut Vec<CallSite<'e>>) -> Result<(), AllocError> {
+fn calls_in_actual<'e>(a: &'e Actual, sites: &mut Vec<CallSite<'e>>) -> Result<(), AllocError>
+    ensures { OnOk result (sites_of sites.new.items ≡ sites_of sites.old.items ++ actual_calls a.now) }
+{
     match a {
         Actual::Value(e) => calls_in_expr(e, sites),
         Actual::Whole(access) => calls_in_access(access, sites),
@@ -75,7 +94,9 @@ fn calls_in_actual<'e>(a: &'e Actual, sites: &mut Vec<CallSite<'e>>) -> Result<(
 pub fn calls_in_item<'e>(
     item: &'e WriteItem,
     sites: &mut Vec<CallSite<'e>>,
-) -> Result<(), AllocError> {
+) -> Result<(), AllocError>
+    ensures { OnOk result (sites_of sites.new.items ≡ sites_of sites.old.items ++ item_calls item.now) }
+{
     calls_in_written(&item.value, sites)?;
     match &item.width {
         None => Ok(()),
@@ -86,7 +107,9 @@ pub fn calls_in_item<'e>(
 fn calls_in_written<'e>(
     value: &'e WriteValue,
     sites: &mut Vec<CallSite<'e>>,
-) -> Result<(), AllocError> {
+) -> Result<(), AllocError>
+    ensures { OnOk result (sites_of sites.new.items ≡ sites_of sites.old.items ++ written_calls value.now) }
+{
     match value {
         WriteValue::Value(e) => calls_in_expr(e, sites),
         WriteValue::Text { .. } => Ok(()),
@@ -94,7 +117,9 @@ fn calls_in_written<'e>(
 }
 
 /// The calls in the action that leaves the point before a statement, which are made before it.
-pub fn own_calls<'e>(alloc: Global, body: &'e Body) -> Result<Vec<CallSite<'e>>, AllocError> {
+pub fn own_calls<'e>(alloc: Global, body: &'e Body) -> Result<Vec<CallSite<'e>>, AllocError>
+    ensures { IfOk result (λ sites. sites_of sites.items ≡ own_calls body.now) }
+{
     let mut sites = Vec::new(alloc);
     match body {
         Body::Assign { to, value } => {

@@ -18,6 +18,7 @@ mod flow;
 mod graph;
 mod item;
 mod judging;
+mod labels;
 mod laws;
 mod numbering;
 mod point;
