@@ -15,7 +15,7 @@ use Rattle.control_points.specs.Marks.{Marks, before_mark, body_marks, body_mark
 pub marks_is : (r : ℕ) (s : Statement) → statement_marks r s ≡ before_mark r s.at s.asserts s.label ∷ body_marks r s.body s.at
 marks_is r s = ap (statement_marks r) (sym (roll-out-Statement s)) ∙ fold-roll-Statement (ℕ → Marks) Marks Marks (body_marks_step r) (λ a. a.body) (statement_marks_step r) (out-Statement s)
 
-extent_is : (s : Statement) → statement_extent s ≡ record { points = suc (body_extent s.body).points; sizes = suc (body_extent s.body).points ∷ (body_extent s.body).sizes }
+pub extent_is : (s : Statement) → statement_extent s ≡ record { points = suc (body_extent s.body).points; sizes = suc (body_extent s.body).points ∷ (body_extent s.body).sizes }
 extent_is s = ap statement_extent (sym (roll-out-Statement s)) ∙ fold-roll-Statement Extent Extent Extent body_extent_step (λ a. a.body) statement_extent_step (out-Statement s)
 
 pub sizes_is : (s : Statement) → (statement_extent s).sizes ≡ suc (body_extent s.body).points ∷ (body_extent s.body).sizes

@@ -136,26 +136,26 @@ for_fits p r s control bound first down last body is n t h =
 
 -- ---- an `if`, with or without a second branch
 
-pub if_first : (q : Rule) (cond : Expr) (first : Statement) (no : Option Statement) → body_step q (map-Body Body Arm Statement Bool (Bool × List ℤ) Bool (each_body q) (arm_of q) (each_statement q) (Body-F.If cond first no)) ≡ true → each_statement q first ≡ true
+pub if_first : (q : Rule) (cond : Expr) (first : Statement) (other : Option Statement) → body_step q (map-Body Body Arm Statement Bool (Bool × List ℤ) Bool (each_body q) (arm_of q) (each_statement q) (Body-F.If cond first other)) ≡ true → each_statement q first ≡ true
 if_first q cond first None h = (and_parts (each_statement q first) _ (and_parts (each_expr q cond) _ h).1).0
 if_first q cond first (Some second) h = (and_parts (each_statement q first) _ (and_parts (each_expr q cond) _ h).1).0
 
-pub if_second : (q : Rule) (cond : Expr) (first : Statement) (no : Option Statement) → body_step q (map-Body Body Arm Statement Bool (Bool × List ℤ) Bool (each_body q) (arm_of q) (each_statement q) (Body-F.If cond first no)) ≡ true → true_if_some (option_map (each_statement q) no) ≡ true
+pub if_second : (q : Rule) (cond : Expr) (first : Statement) (other : Option Statement) → body_step q (map-Body Body Arm Statement Bool (Bool × List ℤ) Bool (each_body q) (arm_of q) (each_statement q) (Body-F.If cond first other)) ≡ true → true_if_some (option_map (each_statement q) other) ≡ true
 if_second q cond first None h = refl
 if_second q cond first (Some second) h = (and_parts (each_statement q first) _ (and_parts (each_expr q cond) _ h).1).1
 
-pub if_first_types : (t : Tables) (cond : Expr) (first : Statement) (no : Option Statement) → body_type_step t (map-Body Body Arm Statement Bool (Bool × List ℤ) Bool (body_types_fit t) (arm_types t) (statement_types_fit t) (Body-F.If cond first no)) ≡ true → statement_types_fit t first ≡ true
+pub if_first_types : (t : Tables) (cond : Expr) (first : Statement) (other : Option Statement) → body_type_step t (map-Body Body Arm Statement Bool (Bool × List ℤ) Bool (body_types_fit t) (arm_types t) (statement_types_fit t) (Body-F.If cond first other)) ≡ true → statement_types_fit t first ≡ true
 if_first_types t cond first None h = (and_parts (statement_types_fit t first) _ (and_parts (is_of_host true (hosted t cond)) _ h).1).0
 if_first_types t cond first (Some second) h = (and_parts (statement_types_fit t first) _ (and_parts (is_of_host true (hosted t cond)) _ h).1).0
 
-pub if_second_types : (t : Tables) (cond : Expr) (first : Statement) (no : Option Statement) → body_type_step t (map-Body Body Arm Statement Bool (Bool × List ℤ) Bool (body_types_fit t) (arm_types t) (statement_types_fit t) (Body-F.If cond first no)) ≡ true → true_if_some (option_map (statement_types_fit t) no) ≡ true
+pub if_second_types : (t : Tables) (cond : Expr) (first : Statement) (other : Option Statement) → body_type_step t (map-Body Body Arm Statement Bool (Bool × List ℤ) Bool (body_types_fit t) (arm_types t) (statement_types_fit t) (Body-F.If cond first other)) ≡ true → true_if_some (option_map (statement_types_fit t) other) ≡ true
 if_second_types t cond first None h = refl
 if_second_types t cond first (Some second) h = (and_parts (statement_types_fit t first) _ (and_parts (is_of_host true (hosted t cond)) _ h).1).1
 
 abbrev pub if_extent : Expr → Statement → Option Statement → Extent
-if_extent cond first no = both (extent_of (length (expr_calls cond))) (both (statement_extent first) (second_or (extent_of 0) (option_map statement_extent no)))
+if_extent cond first other = both (extent_of (length (expr_calls cond))) (both (statement_extent first) (second_or (extent_of 0) (option_map statement_extent other)))
 
-pub if_extent_is : (cond : Expr) (first : Statement) (no : Option Statement) → body_extent_step (map-Body Body Arm Statement Extent Extent Extent body_extent arm_extent statement_extent (Body-F.If cond first no)) ≡ if_extent cond first no
+pub if_extent_is : (cond : Expr) (first : Statement) (other : Option Statement) → body_extent_step (map-Body Body Arm Statement Extent Extent Extent body_extent arm_extent statement_extent (Body-F.If cond first other)) ≡ if_extent cond first other
 if_extent_is cond first None = refl
 if_extent_is cond first (Some second) = refl
 

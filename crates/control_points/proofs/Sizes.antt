@@ -19,10 +19,13 @@ begins_both (x ∷ xs) ys (z ∷ zs) h =
     let e = begins_both xs ys zs (same_tail z x (take (length (xs ++ ys)) zs) (xs ++ ys) h) in
     (ap (λ n. n ∷ take (length xs) zs) (same_head z x (take (length (xs ++ ys)) zs) (xs ++ ys) h) ∙ ap (λ ns. x ∷ ns) e.0, e.1)
 
+drop_nil : (n : ℕ) → drop {A = ℕ} n [] ≡ []
+drop_nil zero = refl
+drop_nil (suc n) = refl
+
 drop_more : (k : ℕ) (zs : List ℕ) (n : ℕ) → drop n (drop k zs) ≡ drop (k + n) zs
 drop_more zero zs n = ap (λ m. drop m zs) (omega arith)
-drop_more (suc k) [] zero = refl
-drop_more (suc k) [] (suc n) = refl
+drop_more (suc k) [] n = drop_nil n ∙ sym (drop_nil (suc k + n))
 drop_more (suc k) (z ∷ zs) n = drop_more k zs n ∙ ap (λ m. drop m (z ∷ zs)) (omega arith)
 
 -- the sizes of two things, one after the other

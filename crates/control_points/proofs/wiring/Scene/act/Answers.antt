@@ -112,7 +112,7 @@ reads-requires-clause-fits c =
     let s = c.args.s.now in
     let d = Body-F.Read c.in-Read.to c.in-Read.line in
     let is = c.in-Read.is ∙ sym (view.rolls-Read c.in-Read.to c.in-Read.line) in
-    reads_fit p r c.in-Read.to (rule_at s d is (numbers_in p) c.requires.numbers) (types_at s d is (tables p) c.requires.types) (rule_at s d is (scope_in p r) c.requires.scopes)
+    rw c.as_slice-in-Read.ensures (reads_fit p r c.in-Read.to (rule_at s d is (numbers_in p) c.requires.numbers) (types_at s d is (tables p) c.requires.types) (rule_at s d is (scope_in p r) c.requires.scopes))
 
 pub writes-requires-clause-fits : goal.writes-requires-clause-fits
 writes-requires-clause-fits c =
@@ -121,7 +121,7 @@ writes-requires-clause-fits c =
     let s = c.args.s.now in
     let d = Body-F.Write c.in-Write.items c.in-Write.line in
     let is = c.in-Write.is ∙ sym (view.rolls-Write c.in-Write.items c.in-Write.line) in
-    writes_fit p r c.in-Write.items (rule_at s d is (numbers_in p) c.requires.numbers) (types_at s d is (tables p) c.requires.types) (rule_at s d is (scope_in p r) c.requires.scopes)
+    rw c.as_slice-in-Write.ensures (writes_fit p r c.in-Write.items (rule_at s d is (numbers_in p) c.requires.numbers) (types_at s d is (tables p) c.requires.types) (rule_at s d is (scope_in p r) c.requires.scopes))
 
 pub returns-in-Copy : goal.returns-in-Copy
 returns-in-Copy c = then_ok c.copying.result c.copying.ensures (λ g. weaker_in c.args.self.now _ _ (c.args.here + 1) _ g (omega arith))
