@@ -8,6 +8,7 @@ pub mod Finding
 pub mod Fits
 pub mod Flows
 pub mod Input
+pub mod Leading
 pub mod Output
 pub mod Runs
 pub mod Sites
@@ -15,3 +16,4 @@ pub mod States
 pub mod Steps
 pub mod Storage
 pub mod ValidStates
+pub mod WellFormed

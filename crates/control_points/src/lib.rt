@@ -21,5 +21,7 @@ pub use edge::{Act, Edge};
 pub use fault::Fault;
 pub use flow::Flow;
 pub use item::Item;
-pub use laws::earlier_is_on_the_way;
+pub use laws::{
+    earlier_is_on_the_way, flows_are_well_formed, next_is_valid, runs_are_valid, start_is_valid,
+};
 pub use point::{Point, PointKind};
