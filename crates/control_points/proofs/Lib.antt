@@ -1,2 +1,14 @@
 pub mod Examples
+pub mod ValidActions
+pub mod ValidBasics
+pub mod ValidCalls
+pub mod ValidEffects
+pub mod ValidEntries
+pub mod ValidFlows
+pub mod ValidNumbers
+pub mod ValidPlaces
+pub mod ValidStacks
+pub mod ValidSteps
+pub mod ValidStores
+pub mod ValidValues
 pub mod Values

@@ -57,7 +57,7 @@ source_at edges k = option_map (λ (e : Edge). e.from) (slice_get edges k)
 
 -- Both ways leave one point. From each point but the exits an edge leads away; from the exits only returns do. A routine has one
 -- exit, and the last point is that of the program's block.
-pub record EdgesPair (program : Program) (points : List Point) (edges : List Edge) : Type 0 where
+pub record EdgesPair (main : ℕ) (points : List Point) (edges : List Edge) : Type 0 where
   pub followed : (k : ℕ) (e : Edge) (a : Act) → slice_get edges k ≡ Some e → other_way e.act ≡ Some a → act_at edges (suc k) ≡ Some a
   pub beside : (k : ℕ) (e : Edge) (a : Act) → slice_get edges k ≡ Some e → other_way e.act ≡ Some a → source_at edges (suc k) ≡ Some e.from
   pub preceded : (k : ℕ) (e : Edge) → slice_get edges k ≡ Some e → is_other_way e.act ≡ true → option_and_then other_way (act_at edges (k - 1)) ≡ Some e.act
@@ -66,4 +66,4 @@ pub record EdgesPair (program : Program) (points : List Point) (edges : List Edg
   pub returns : (k : ℕ) (e : Edge) (q : Point) → slice_get edges k ≡ Some e → slice_get points e.from ≡ Some q → is_return e.act ≡ is_exit q.kind
   pub exit_once : (p q r : ℕ) → kind_at points p ≡ Some kind.Exit → kind_at points q ≡ Some kind.Exit → routine_at points p ≡ Some r → routine_at points q ≡ Some r → p ≡ q
   pub last_exit : kind_at points (length points - 1) ≡ Some kind.Exit
-  pub last_routine : routine_at points (length points - 1) ≡ Some (length program.routines - 1)
+  pub last_routine : routine_at points (length points - 1) ≡ Some main
