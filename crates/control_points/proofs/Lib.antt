@@ -2,6 +2,7 @@ pub mod Examples
 pub mod ValidActions
 pub mod ValidBasics
 pub mod ValidCalls
+pub mod ValidChoices
 pub mod ValidEffects
 pub mod ValidEntries
 pub mod ValidFlows

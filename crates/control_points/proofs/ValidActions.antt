@@ -27,11 +27,11 @@ use Rattle.control_points.specs.Input.{Taken, next_number, after_line}
 use Rattle.control_points.specs.Output.{Written, is_width, in_columns}
 use Rattle.control_points.specs.States.{Stack, State}
 use Rattle.control_points.specs.Storage.{Place}
-use Rattle.control_points.specs.ValidStates.{Exists, IsOf, IsStored, IsStack, IsValid, type_of_place, type_of_variable}
+use Rattle.control_points.specs.ValidStates.{Denotes, Exists, IsOf, IsStored, IsStack, IsValid, type_of_place, type_of_variable}
 use Rattle.control_points.specs.WellFormed.{TablesFit, IsWellFormed}
 use Rattle.control_points.proofs.ValidBasics.{no_error, same_Ok, then_ok, checked_ok, defined_ok, if_done, unless_done, same_effect, holds_found, found_once, same_kind}
 use Rattle.control_points.proofs.ValidEffects.{EffectFits, stays, does_fit, line_is_input, rest_is_input}
-use Rattle.control_points.proofs.ValidPlaces.{Denotes, spot_denotes, variable_denotes, var_type_is}
+use Rattle.control_points.proofs.ValidPlaces.{spot_denotes, variable_denotes, var_type_is}
 
 -- ---- numbers and types
 

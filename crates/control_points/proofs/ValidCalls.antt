@@ -33,12 +33,12 @@ use Rattle.control_points.specs.Fits.{callee_of, routine_at}
 use Rattle.control_points.specs.States.{Binding, Frame, Activation, Stack, State}
 use Rattle.control_points.specs.Steps.{down_to, point_of}
 use Rattle.control_points.specs.Storage.{Place, whole}
-use Rattle.control_points.specs.ValidStates.{Exists, IsOf, IsBound, IsMain, IsCallee, IsStored, IsStack, IsValid, type_of_place, type_of_variable}
+use Rattle.control_points.specs.ValidStates.{Denotes, Exists, IsOf, IsBound, IsMain, IsCallee, IsStored, IsStack, IsValid, type_of_place, type_of_variable}
 use Rattle.control_points.specs.WellFormed.{TablesFit, IsWellFormed}
 use Rattle.control_points.proofs.ValidActions.{array_typed, assigned_fits, stored_at}
 use Rattle.control_points.proofs.ValidBasics.{no_error, same_Ok, then_ok, and_then_found, if_done, same_effect, holds_found, found_once, same_kind}
 use Rattle.control_points.proofs.ValidEffects.{EffectFits, lands}
-use Rattle.control_points.proofs.ValidPlaces.{Denotes, some_found, around_seen, spot_denotes, var_type_is, whole_denotes}
+use Rattle.control_points.proofs.ValidPlaces.{some_found, around_seen, spot_denotes, var_type_is, whole_denotes}
 use Rattle.control_points.proofs.ValidStacks.{IsFound, down_frames, frame_below, frame_kept, frame_of_latest, latest_found, standing_routine, is_of_above, exists_above, top_is}
 use Rattle.control_points.proofs.ValidStores.{ChangesFit, changes_joined, stored_moved}
 

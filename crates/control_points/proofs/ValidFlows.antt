@@ -5,7 +5,7 @@ use Rattle.std.proofs.lemmas.Option.{none-some, same_Some, slice_get_within, sli
 use Rattle.pas_program.specs.declared.program.Program.{Program}
 use Rattle.pas_program.specs.declared.routine.Routine.{Routine}
 use Rattle.pas_program.specs.declared.type_def.TypeDef.{TypeDef}
-use Rattle.pas_program.specs.declared.type_def.TypeDef.TheVariants.{Scalar}
+use Rattle.pas_program.specs.declared.type_def.TypeDef.TheVariants.{Scalar, Array}
 use Rattle.pas_program.specs.declared.variable.VarDef.{VarDef}
 use Rattle.pas_program.specs.declared.variable.VarKind.TheVariants as kind
 use Rattle.pas_program.specs.Checked.{tables}
@@ -91,6 +91,15 @@ module _ (p : Program) where
       let d = item_found p.types x.of_type (ltb-true x.of_type (length p.types) in_range.1) in
       some_is (slice_get p.types x.of_type) d.0 d.1
 
+  -- an element type stands before its array
+  elements : (n index element : ℕ) → (tables p).type_at n ≡ Some (Array index element) → is_some ((tables p).type_at element) ≡ true
+  elements n index element known =
+      let within = slice_get_within p.types n (Array index element) known in
+      let before = and_parts (nat_lt index n && nat_lt element n) _ (p.types_fit.each n (Array index element) known) in
+      let lower = ltb-true element n (and_parts (nat_lt index n) _ before.0).1 in
+      let d = item_found p.types element (omega arith) in
+      some_is (slice_get p.types element) d.0 d.1
+
   pub tables_fit : TablesFit (tables p) (length p.routines - 1)
   tables_fit = record {
     outermost = outermost;
@@ -98,6 +107,7 @@ module _ (p : Program) where
     formals = formals;
     of_routine = of_routine;
     typed = typed;
+    elements = elements;
     low = λ n boolean lo hi known. (and_parts (in_host boolean lo) _ (p.types_fit.each n (Scalar boolean lo hi) known)).0;
     high = λ n boolean lo hi known. (and_parts (in_host boolean hi) _ (and_parts (in_host boolean lo) _ (p.types_fit.each n (Scalar boolean lo hi) known)).1).0;
   }

@@ -28,7 +28,7 @@ integer_to (negsuc n) h = let below = leb-true n 2147483646 (and_parts (leb n 21
 boolean_from : (n : ℕ) → n ≤ 1 → in_host true (pos n) ≡ true
 boolean_from n h = and_from _ _ (le-leb 0 n (omega arith)) (le-leb n 1 h)
 
-boolean_to : (z : ℤ) → in_host true z ≡ true → (n : ℕ) × (z ≡ pos n) × (n ≤ 1)
+pub boolean_to : (z : ℤ) → in_host true z ≡ true → (n : ℕ) × (z ≡ pos n) × (n ≤ 1)
 boolean_to (pos n) h = (n, refl, leb-true n 1 (and_parts (leb 0 n) _ h).1)
 boolean_to (negsuc n) h = absurd (true≢false (sym h))
 

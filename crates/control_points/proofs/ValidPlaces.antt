@@ -24,7 +24,7 @@ use Rattle.control_points.specs.Evaluation.{Answer, Valued, View, Spot, then_wit
 use Rattle.control_points.specs.Finding.{around, frame_at, bound_to, own_place, seen_place, place_of}
 use Rattle.control_points.specs.States.{Binding, Frame, Activation, Stack, State}
 use Rattle.control_points.specs.Storage.{Place, whole, part}
-use Rattle.control_points.specs.ValidStates.{Exists, IsOf, IsBound, IsStack, IsValid, led_to, type_of_place, type_of_variable}
+use Rattle.control_points.specs.ValidStates.{Denotes, Exists, IsOf, IsBound, IsStack, IsValid, led_to, type_of_place, type_of_variable}
 use Rattle.control_points.specs.WellFormed.{TablesFit}
 use Rattle.control_points.proofs.ValidBasics.{no_error, same_Ok, then_ok, checked_ok, and_then_found, holds_found, found_once, same_kind}
 use Rattle.control_points.proofs.ValidStacks.{IsFound, around_found, bound_in, frame_below}
@@ -82,11 +82,6 @@ module _ (t : Tables) (g : Expr → Hosted) (w : Expr → Valued) where
   led_by (e ∷ subscripts) n zs fits h = led_element n e subscripts (t.type_at n) refl (led_by subscripts) fits zs h
 
 -- ---- what is denoted
-
--- the place exists, and is of a type
-pub record Denotes (c : Chart) (stack : Stack) (p : Place) (n : Option TypeDef) : Type 0 where
-  pub exists : Exists c stack p
-  pub typed : type_of_place c.tables p ≡ n
 
 pub some_found : {A : Type 0} (o : Option A) → is_some o ≡ true → (x : A) × (o ≡ Some x)
 some_found (Some x) h = (x, refl)
@@ -205,3 +200,27 @@ module _ (c : Chart) (fits : TablesFit c.tables c.main) (s : State) (is : IsStac
           ∙ ap t.type_at (sym reach) in
       subst (λ (q : Spot). Denotes c s.stack q.place (t.type_at (reached t a).of_type)) (same_Ok _ p y.2)
       (part_denotes c fits s.stack is ((view c s).place x.var) x.var y.0 (reached t a).of_type d (variable_denotes x.var seen.0) led known)
+
+-- ---- types that there are
+
+module _ (t : Tables) (main : ℕ) (fits : TablesFit t main) where
+  element_typed : (s : Hosted) (subscripts : List Hosted) (n : ℕ) (o : Option TypeDef) → t.type_at n ≡ o
+      → ((m : ℕ) → is_some (t.type_at m) ≡ true → (subscripted t m subscripts).fits ≡ true → is_some (t.type_at (subscripted t m subscripts).of_type) ≡ true)
+      → (element_of t s (λ m. subscripted t m subscripts) o).fits ≡ true → is_some (t.type_at (element_of t s (λ m. subscripted t m subscripts) o).of_type) ≡ true
+  element_typed s subscripts n None is rest h = absurd (true≢false (sym h))
+  element_typed s subscripts n (Some (Scalar boolean lo hi)) is rest h = absurd (true≢false (sym h))
+  element_typed s subscripts n (Some (Array index element)) is rest h = rest element (fits.elements n index element is) (and_parts _ (subscripted t element subscripts).fits h).1
+
+  subscripted_typed : (subscripts : List Hosted) (n : ℕ) → is_some (t.type_at n) ≡ true → (subscripted t n subscripts).fits ≡ true → is_some (t.type_at (subscripted t n subscripts).of_type) ≡ true
+  subscripted_typed [] n there h = there
+  subscripted_typed (s ∷ subscripts) n there h = element_typed s subscripts n (t.type_at n) refl (subscripted_typed subscripts) h
+
+  -- the type of an access whose types fit
+  pub access_typed : (a : Access) → (reached t a).fits ≡ true → (d : TypeDef) × (t.type_at (reached t a).of_type ≡ Some d)
+  access_typed a h =
+      let x = out-Access a in
+      let is = reached_is t a in
+      let way = from_variable t (map (hosted t) x.subscripts) (t.var_at x.var) (ap (λ (y : Reached). y.fits) (sym is) ∙ h) in
+      some_found (t.type_at (reached t a).of_type)
+      (ap (λ (y : Reached). is_some (t.type_at y.of_type)) (is ∙ ap (access_from t (map (hosted t) x.subscripts)) way.1)
+      ∙ subscripted_typed (map (hosted t) x.subscripts) (way.0).of_type (fits.typed x.var way.0 way.1) way.2)

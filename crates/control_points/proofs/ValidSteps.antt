@@ -1,33 +1,39 @@
 -- A run begins in a valid state, and each step leads from a valid state to a valid state.
-use Rattle.std.proofs.Common.{◌≡◌, ℕ, zero, suc, ◌+◌, ◌-◌, ◌<◌, ◌≤◌, Bool, true, false, cond, ◌&&◌, List, [], ◌∷◌, All, refl, sym, ap, subst, ◌∙◌, inl, inr, Ok, Err, Option, Some, None, slice_get, nat_eq, eqb-true, arith, add-zero, zero-add, add-suc}
+use Rattle.std.proofs.Common.{◌≡◌, ℕ, zero, suc, ◌+◌, ◌-◌, ◌<◌, ◌≤◌, Bool, true, false, cond, ◌&&◌, List, [], ◌∷◌, ℤ, All, refl, sym, ap, subst, ◌∙◌, inl, inr, Ok, Err, Option, Some, None, slice_get, nat_eq, eqb-true, arith, add-zero, zero-add, add-suc}
 use Rattle.std.proofs.lemmas.Bool.{and_parts, cases_Bool, cond-true, cond-false, true≢false}
 use Rattle.std.proofs.lemmas.List.Elements.{All-nil, All-cons, All-head, All-tail}
 use Rattle.std.proofs.lemmas.Option.{none-some, same_Some}
+use Rattle.pas_program.specs.declared.expr.Access.{Access}
+use Rattle.pas_program.specs.declared.expr.Expr.{Expr}
+use Rattle.pas_program.specs.Each.{each_access, each_expr}
 use Rattle.pas_program.specs.Scopes.{scope_rule}
 use Rattle.pas_program.specs.Tables.{holds_of, is_own, is_visible}
-use Rattle.pas_program.specs.Typed.{Hosted, hosted, loop_fits}
+use Rattle.pas_program.specs.Typed.{Hosted, hosted, reached, loop_fits}
+use Rattle.pas_program.specs.Types.{in_host}
 use Rattle.control_points.specs.declared.edge.Act.{Act}
 use Rattle.control_points.specs.declared.edge.Act.TheVariants as act
 use Rattle.control_points.specs.declared.edge.Edge.{Edge}
 use Rattle.control_points.specs.declared.fault.Fault.{Fault}
 use Rattle.control_points.specs.declared.item.Item.{Item}
-use Rattle.control_points.specs.Actions.{Effect, Outcome, top_depth, effect_of}
+use Rattle.control_points.specs.Actions.{Effect, Outcome, top_depth, view, effect_of}
 use Rattle.control_points.specs.Acts.{each_act, act_types_fit, turn_fits}
 use Rattle.control_points.specs.Chart.{Chart, numbers_from, leaving, entry_of, place_of_point}
-use Rattle.control_points.specs.Evaluation.{Answer}
+use Rattle.control_points.specs.Evaluation.{Answer, Spot, value, spot}
 use Rattle.control_points.specs.Fits.{callee_of, routine_at}
 use Rattle.control_points.specs.Leading.{goes_on_after}
 use Rattle.control_points.specs.Runs.{start, at, moved, step_from, IsInput}
 use Rattle.control_points.specs.States.{Stack, State}
 use Rattle.control_points.specs.Steps.{Progress, moves, halts, fails, after, point_of, is_halted, edge_effect, target_of, or_else, first_done, selector_of, progress, next}
-use Rattle.control_points.specs.ValidStates.{IsOf, IsStack, IsValid, type_of_variable}
+use Rattle.control_points.specs.ValidStates.{Denotes, IsOf, IsStack, IsValid, type_of_variable}
 use Rattle.control_points.specs.WellFormed.{IsWellFormed}
 use Rattle.control_points.proofs.ValidActions.{loop_type, skip_fits, assign_fits, copy_is_fit, test_fits, arm_fits, enter_fits, bypass_fits, next_turn_fits, finish_fits, read_fits, drop_line_fits, write_fits, puts_fit}
 use Rattle.control_points.proofs.ValidBasics.{no_error, same_Ok}
 use Rattle.control_points.proofs.ValidCalls.{call_is_fit, call_fits, jump_fits, return_fits}
 use Rattle.control_points.proofs.ValidEffects.{EffectFits, after_is_valid}
+use Rattle.control_points.proofs.ValidPlaces.{variable_denotes, spot_denotes, access_typed}
 use Rattle.control_points.proofs.ValidStacks.{latest_found, standing_routine}
 use Rattle.control_points.proofs.ValidStores.{empty_fits}
+use Rattle.control_points.proofs.ValidValues.{expr_in_host}
 
 -- ---- the action of an edge
 
@@ -174,3 +180,16 @@ step_from_valid c w (Some s) valid t h = step_is_valid c w s (valid s refl) t (m
 pub run_is_valid : (c : Chart) (items : List Item) (i : ℕ) (s : State) → IsWellFormed c → IsInput items → at c items i ≡ Some s → IsValid c s
 run_is_valid c items zero s w input h = subst (IsValid c) (same_Some _ s h) (start_is_valid c items w input)
 run_is_valid c items (suc i) s w input h = step_from_valid c w (at c items i) (λ t is. run_is_valid c items i t w input is) s h
+
+-- ---- what is evaluated in a valid state
+
+pub variable_exists : (c : Chart) (s : State) (r v : ℕ) → IsWellFormed c → IsValid c s → routine_at c.points (point_of s.stack) ≡ Some r → is_visible c.tables r v ≡ true → Denotes c s.stack ((view c s).place v) (type_of_variable c.tables v)
+variable_exists c s r v w x stands seen = variable_denotes c w.tables s x.stack r (latest_found c s.stack x.stack r stands) v seen
+
+pub spot_exists : (c : Chart) (s : State) (r : ℕ) (a : Access) (p : Spot) → IsWellFormed c → IsValid c s → routine_at c.points (point_of s.stack) ≡ Some r → each_access (scope_rule c.tables r) a ≡ true → (reached c.tables a).fits ≡ true → spot (view c s) a ≡ Ok p → Denotes c s.stack p.place (c.tables.type_at (reached c.tables a).of_type)
+spot_exists c s r a p w v stands scope types h =
+    let d = access_typed c.tables c.main w.tables a types in
+    spot_denotes c w.tables s v.stack r (latest_found c s.stack v.stack r stands) a p d.0 scope types d.1 h
+
+pub value_lies_in_host : (c : Chart) (s : State) (r : ℕ) (e : Expr) (z : ℤ) → IsWellFormed c → IsValid c s → routine_at c.points (point_of s.stack) ≡ Some r → each_expr (scope_rule c.tables r) e ≡ true → (hosted c.tables e).fits ≡ true → value (view c s) e ≡ Ok z → in_host (hosted c.tables e).boolean z ≡ true
+value_lies_in_host c s r e z w v stands scope types h = expr_in_host c w.tables s v r (latest_found c s.stack v.stack r stands) e scope types z h

@@ -26,12 +26,12 @@ use Rattle.control_points.specs.Actions.{top_depth, view}
 use Rattle.control_points.specs.Chart.{Chart}
 use Rattle.control_points.specs.Evaluation.{Answer, View, Spot, Valued, then_with, placed, defined, used, is_value_of, value, spot, form_step, access_step, expr_step}
 use Rattle.control_points.specs.States.{State}
-use Rattle.control_points.specs.ValidStates.{IsOf, IsValid, type_of_place, type_of_variable}
+use Rattle.control_points.specs.ValidStates.{Denotes, IsOf, IsValid, type_of_place, type_of_variable}
 use Rattle.control_points.specs.WellFormed.{TablesFit}
 use Rattle.control_points.proofs.ValidActions.{sees_own}
 use Rattle.control_points.proofs.ValidBasics.{no_error, same_Ok, then_ok, defined_ok, holds_found}
 use Rattle.control_points.proofs.ValidNumbers.{unary_in_host, binary_in_host}
-use Rattle.control_points.proofs.ValidPlaces.{Denotes, spot_denotes, variable_denotes, var_type_is}
+use Rattle.control_points.proofs.ValidPlaces.{spot_denotes, variable_denotes, var_type_is}
 use Rattle.control_points.proofs.Values.{valued, form_value, valued-expr, form_value-Const, form_value-Value, form_value-Unary, form_value-Binary}
 
 -- ---- hosts

@@ -67,3 +67,14 @@ pub record EdgesPair (main : ℕ) (points : List Point) (edges : List Edge) : Ty
   pub exit_once : (p q r : ℕ) → kind_at points p ≡ Some kind.Exit → kind_at points q ≡ Some kind.Exit → routine_at points p ≡ Some r → routine_at points q ≡ Some r → p ≡ q
   pub last_exit : kind_at points (length points - 1) ≡ Some kind.Exit
   pub last_routine : routine_at points (length points - 1) ≡ Some main
+
+-- ---- the points at which it may be that no action is to be done
+
+abbrev pub is_arm : Act → Bool
+is_arm (act.Arm selector constants) = true
+is_arm _ = false
+
+-- edges lead away from the point, and each is an arm of a `case`
+pub record IsCase (edges : List Edge) (p : ℕ) : Type 0 where
+  pub leads : 0 < length (leaving edges p)
+  pub arms : (k : ℕ) (e : Edge) → slice_get edges k ≡ Some e → e.from ≡ p → is_arm e.act ≡ true

@@ -44,6 +44,11 @@ pub record Exists (c : Chart) (stack : Stack) (p : Place) : Type 0 where
   pub stored : is_kind kind.Var variable.kind ≡ false
   pub typed : type_of_place c.tables p ≡ Some of_type
 
+-- the place exists, and is of a type
+pub record Denotes (c : Chart) (stack : Stack) (p : Place) (of_type : Option TypeDef) : Type 0 where
+  pub exists : Exists c stack p
+  pub typed : type_of_place c.tables p ≡ of_type
+
 -- ---- activations
 
 -- the activation at a depth is one of the routine r

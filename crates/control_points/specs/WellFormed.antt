@@ -1,6 +1,6 @@
 -- What a chart has that is that of a flow: what each step of a run rests on.
 use Rattle.std.specs.Prelude.{◌≡◌, ℕ, true, is_some, Option, Some, None, slice_get, ℤ}
-use Rattle.pas_program.specs.declared.type_def.TypeDef.TheVariants.{Scalar}
+use Rattle.pas_program.specs.declared.type_def.TypeDef.TheVariants.{Scalar, Array}
 use Rattle.pas_program.specs.declared.variable.VarDef.{VarDef}
 use Rattle.pas_program.specs.declared.variable.VarKind.TheVariants as kind
 use Rattle.pas_program.specs.Scopes.{contains, scope_rule}
@@ -14,13 +14,14 @@ use Rattle.control_points.specs.Fits.{CallsReturn, routine_at}
 use Rattle.control_points.specs.Leading.{EdgesLead}
 
 -- Tables of a checked program: its block has no routine around it and no parameters, a routine's formals are variables of it, its
--- variable parameters are among them, and each variable has a type, in which a scalar is a number of its host.
+-- variable parameters are among them, each variable and each element has a type, and the values of a scalar type are numbers of its host.
 pub record TablesFit (t : Tables) (main : ℕ) : Type 0 where
   pub outermost : (h : Head) → t.head_at main ≡ Some h → h.parent ≡ None
   pub no_formals : (v : ℕ) → is_own t main kind.Var v ≡ true → ⊥
   pub formals : (r v : ℕ) (h : Head) → t.head_at r ≡ Some h → is_own t r kind.Var v ≡ true → contains v h.formals ≡ true
   pub of_routine : (r v : ℕ) (h : Head) (d : VarDef) → t.head_at r ≡ Some h → contains v h.formals ≡ true → t.var_at v ≡ Some d → d.routine ≡ r
   pub typed : (v : ℕ) (d : VarDef) → t.var_at v ≡ Some d → is_some (t.type_at d.of_type) ≡ true
+  pub elements : (n index element : ℕ) → t.type_at n ≡ Some (Array index element) → is_some (t.type_at element) ≡ true
   pub low : (n : ℕ) (boolean : Bool) (lo hi : ℤ) → t.type_at n ≡ Some (Scalar boolean lo hi) → in_host boolean lo ≡ true
   pub high : (n : ℕ) (boolean : Bool) (lo hi : ℤ) → t.type_at n ≡ Some (Scalar boolean lo hi) → in_host boolean hi ≡ true
 

@@ -1,14 +1,24 @@
 //! Laws of the definitions. Each is the contract of a function without a body.
-ghost use Rattle.std.specs.Prelude.{◌≡◌, ℕ, List, ◌≤◌, Some};
+ghost use Rattle.std.specs.Prelude.{◌≡◌, ℕ, ◌≤◌, true, false, List, ℤ, Some, None, Ok};
+ghost use Rattle.pas_program.specs.declared.expr.Access.{Access};
+ghost use Rattle.pas_program.specs.declared.expr.Expr.{Expr};
+ghost use Rattle.pas_program.specs.Each.{each_access, each_expr};
+ghost use Rattle.pas_program.specs.Scopes.{scope_rule};
+ghost use Rattle.pas_program.specs.Tables.{is_visible};
+ghost use Rattle.pas_program.specs.Typed.{hosted, reached};
+ghost use Rattle.pas_program.specs.Types.{in_host};
 ghost use Rattle.control_points.specs.declared.flow.Flow.{Flow};
 ghost use Rattle.control_points.specs.declared.item.Item.{Item};
-ghost use Rattle.control_points.specs.Chart.{Chart};
+ghost use Rattle.control_points.specs.Actions.{view};
+ghost use Rattle.control_points.specs.Chart.{Chart, leaving};
+ghost use Rattle.control_points.specs.Evaluation.{Spot, spot, value};
+ghost use Rattle.control_points.specs.Fits.{routine_at};
 ghost use Rattle.control_points.specs.Flows.{chart_of};
-ghost use Rattle.control_points.specs.Leading.{EntriesFit, EdgesLead};
+ghost use Rattle.control_points.specs.Leading.{EntriesFit, EdgesLead, EdgesPair, IsCase};
 ghost use Rattle.control_points.specs.Runs.{IsInput, IsOnTheWay, at, start};
 ghost use Rattle.control_points.specs.States.{State};
-ghost use Rattle.control_points.specs.Steps.{next, moves};
-ghost use Rattle.control_points.specs.ValidStates.{IsValid};
+ghost use Rattle.control_points.specs.Steps.{moves, is_halted, first_done, next, point_of};
+ghost use Rattle.control_points.specs.ValidStates.{Denotes, IsValid, type_of_variable};
 ghost use Rattle.control_points.specs.WellFormed.{IsWellFormed};
 
 /// If a run is on the way after j steps, it is so after each smaller number of steps.
@@ -34,4 +44,25 @@ pub fn next_is_valid()
 /// Each state of each run is valid.
 pub fn runs_are_valid()
     ensures { (c : Chart) (items : List Item) (i : ℕ) (s : State) → IsWellFormed c → IsInput items → at c items i ≡ Some s → IsValid c s }
+{}
+
+/// In a valid state the run has halted, or an action is done or is an error, or the state stands at a `case`. It is given that two ways
+/// of a condition and of a `for` leave one point.
+pub fn only_a_case_may_have_no_action()
+    ensures { (c : Chart) (s : State) → IsWellFormed c → EdgesPair c.main c.points c.edges → IsValid c s → is_halted c s.stack ≡ false → first_done c s (leaving c.edges (point_of s.stack)) ≡ Ok None → IsCase c.edges (point_of s.stack) }
+{}
+
+/// In a valid state a variable that the latest activation sees has a place, which exists and is of the variable's type.
+pub fn variables_exist()
+    ensures { (c : Chart) (s : State) (r v : ℕ) → IsWellFormed c → IsValid c s → routine_at c.points (point_of s.stack) ≡ Some r → is_visible c.tables r v ≡ true → Denotes c s.stack ((view c s).place v) (type_of_variable c.tables v) }
+{}
+
+/// In a valid state an access leads, where its evaluation is no error, to a place that exists and is of the access's type.
+pub fn spots_exist()
+    ensures { (c : Chart) (s : State) (r : ℕ) (a : Access) (p : Spot) → IsWellFormed c → IsValid c s → routine_at c.points (point_of s.stack) ≡ Some r → each_access (scope_rule c.tables r) a ≡ true → (reached c.tables a).fits ≡ true → spot (view c s) a ≡ Ok p → Denotes c s.stack p.place (c.tables.type_at (reached c.tables a).of_type) }
+{}
+
+/// In a valid state the value of an expression is a number of its host: an integer of the language, or 0 or 1 for a Boolean.
+pub fn values_lie_in_their_hosts()
+    ensures { (c : Chart) (s : State) (r : ℕ) (e : Expr) (z : ℤ) → IsWellFormed c → IsValid c s → routine_at c.points (point_of s.stack) ≡ Some r → each_expr (scope_rule c.tables r) e ≡ true → (hosted c.tables e).fits ≡ true → value (view c s) e ≡ Ok z → in_host (hosted c.tables e).boolean z ≡ true }
 {}
