@@ -6,6 +6,7 @@ pub mod ValidChoices
 pub mod ValidEffects
 pub mod ValidEntries
 pub mod ValidFlows
+pub mod ValidHalts
 pub mod ValidNumbers
 pub mod ValidPlaces
 pub mod ValidStacks

@@ -211,7 +211,7 @@ return_is : (k : ℕ) (a : Act) → is_return_of k a ≡ true → a ≡ act.Retu
 return_is k (act.Return j) h = ap act.Return (eqb-true j k h)
 return_is k _ h = absurd (true≢false (sym h))
 
-last_number : (p n : ℕ) → p ≡ n - 1 → p < n → suc p ≡ n
+pub last_number : (p n : ℕ) → p ≡ n - 1 → p < n → suc p ≡ n
 last_number p n e h = omega arith
 
 module _ (c : Chart) (w : IsWellFormed c) (pairs : EdgesPair c.main c.points c.edges) where

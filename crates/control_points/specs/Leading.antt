@@ -78,3 +78,8 @@ is_arm _ = false
 pub record IsCase (edges : List Edge) (p : ℕ) : Type 0 where
   pub leads : 0 < length (leaving edges p)
   pub arms : (k : ℕ) (e : Edge) → slice_get edges k ≡ Some e → e.from ≡ p → is_arm e.act ≡ true
+
+-- the exit of the program's block, where one activation is there
+pub record IsAtEnd (points : List Point) (height p : ℕ) : Type 0 where
+  pub alone : height ≡ 1
+  pub exit : kind_at points p ≡ Some kind.Exit

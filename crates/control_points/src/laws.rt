@@ -1,5 +1,5 @@
 //! Laws of the definitions. Each is the contract of a function without a body.
-ghost use Rattle.std.specs.Prelude.{◌≡◌, ℕ, ◌≤◌, true, false, List, ℤ, Some, None, Ok};
+ghost use Rattle.std.specs.Prelude.{◌≡◌, ℕ, ◌≤◌, ◌↔◌, true, false, List, length, ℤ, Some, None, Ok};
 ghost use Rattle.pas_program.specs.declared.expr.Access.{Access};
 ghost use Rattle.pas_program.specs.declared.expr.Expr.{Expr};
 ghost use Rattle.pas_program.specs.Each.{each_access, each_expr};
@@ -14,10 +14,10 @@ ghost use Rattle.control_points.specs.Chart.{Chart, leaving};
 ghost use Rattle.control_points.specs.Evaluation.{Spot, spot, value};
 ghost use Rattle.control_points.specs.Fits.{routine_at};
 ghost use Rattle.control_points.specs.Flows.{chart_of};
-ghost use Rattle.control_points.specs.Leading.{EntriesFit, EdgesLead, EdgesPair, IsCase};
+ghost use Rattle.control_points.specs.Leading.{EntriesFit, EdgesLead, EdgesPair, IsAtEnd, IsCase};
 ghost use Rattle.control_points.specs.Runs.{IsInput, IsOnTheWay, at, start};
 ghost use Rattle.control_points.specs.States.{State};
-ghost use Rattle.control_points.specs.Steps.{moves, is_halted, first_done, next, point_of};
+ghost use Rattle.control_points.specs.Steps.{moves, halts, is_halted, first_done, next, point_of};
 ghost use Rattle.control_points.specs.ValidStates.{Denotes, IsValid, type_of_variable};
 ghost use Rattle.control_points.specs.WellFormed.{IsWellFormed};
 
@@ -50,6 +50,12 @@ pub fn runs_are_valid()
 /// of a condition and of a `for` leave one point.
 pub fn only_a_case_may_have_no_action()
     ensures { (c : Chart) (s : State) → IsWellFormed c → EdgesPair c.main c.points c.edges → IsValid c s → is_halted c s.stack ≡ false → first_done c s (leaving c.edges (point_of s.stack)) ≡ Ok None → IsCase c.edges (point_of s.stack) }
+{}
+
+/// In a valid state a run halts where the program's block is at its exit and no other activation is there, and nowhere else. It is given
+/// that this exit is the last point, and that a routine has one exit.
+pub fn a_run_halts_at_its_exit_alone()
+    ensures { (c : Chart) (s : State) → EdgesPair c.main c.points c.edges → IsValid c s → (next c s ≡ halts) ↔ IsAtEnd c.points (length s.stack) (point_of s.stack) }
 {}
 
 /// In a valid state a variable that the latest activation sees has a place, which exists and is of the variable's type.
