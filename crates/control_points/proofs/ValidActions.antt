@@ -1,8 +1,7 @@
 -- What the actions do that begin and end in one activation: each changes only what exists, and puts there what fits.
-use Rattle.std.proofs.Common.{◌≡◌, ℕ, zero, suc, ◌-◌, ◌<◌, ◌≤◌, Bool, true, false, cond, ◌&&◌, ◌||◌, List, [], ◌∷◌, ◌++◌, ℤ, pos, ◌+ℤ◌, ◌-ℤ◌, int_le, int_lt, int_eq, length, refl, sym, ap, subst, ◌∙◌, inl, inr, Ok, Option, Some, None, unwrap_or, option_and_then, nat_eq, eqb-true, eq-eqb, arith}
+use Rattle.std.proofs.Common.{◌≡◌, ℕ, zero, suc, Bool, true, false, ◌&&◌, List, [], ◌∷◌, ◌++◌, ℤ, pos, ◌+ℤ◌, ◌-ℤ◌, int_le, int_lt, refl, sym, ap, subst, ◌∙◌, Ok, Option, Some, None, nat_eq, eqb-true, eq-eqb, arith}
 use Rattle.std.proofs.lemmas.Bool.{and_parts, and_from, or_left, true≢false}
 use Rattle.std.proofs.lemmas.Int.{ints}
-use Rattle.std.proofs.lemmas.Option.{none-some, same_Some}
 use Rattle.px_base.specs.declared.kind.Kind.TheVariants.{ValueOutOfRange, WidthOutOfRange}
 use Rattle.pas_program.specs.declared.expr.Access.{Access}
 use Rattle.pas_program.specs.declared.expr.Actual.TheViews.{out-Expr}
@@ -16,20 +15,19 @@ use Rattle.pas_program.specs.declared.variable.VarKind.TheVariants as kind
 use Rattle.pas_program.specs.Each.{each_access, each_expr}
 use Rattle.pas_program.specs.Scopes.{scope_rule}
 use Rattle.pas_program.specs.Tables.{Tables, Head, holds_of, leads_within, is_around, is_kind, is_own, is_visible}
-use Rattle.pas_program.specs.Typed.{Hosted, Reached, hosted, reached, is_target, copy_fits, loop_fits}
-use Rattle.pas_program.specs.Types.{is_array, has_host}
-use Rattle.control_points.specs.Actions.{Change, sets, copies, at_depth, Effect, Outcome, top_depth, access_type, fits_type, view, does, assign, copy, test, arm, is_one_of, in_order, comes_before, stepped, range_of, enter, bypass, turn_of, next_turn, finish, with_taken, read, drop_line, puts_out, written_value, write_in, write}
-use Rattle.control_points.specs.Acts.{turn_fits}
+use Rattle.pas_program.specs.Typed.{hosted, reached, is_target, copy_fits}
+use Rattle.pas_program.specs.Types.{is_array}
+use Rattle.control_points.specs.Actions.{sets, copies, Effect, top_depth, access_type, fits_type, view, does, assign, copy, test, arm, in_order, comes_before, stepped, enter, bypass, next_turn, finish, with_taken, read, drop_line, puts_out, written_value, write_in, write}
 use Rattle.control_points.specs.Chart.{Chart}
-use Rattle.control_points.specs.Evaluation.{View, Spot, then_with, checked, defined, is_value_of, var_type, value, spot, assigned}
+use Rattle.control_points.specs.Evaluation.{View, Spot, checked, defined, is_value_of, var_type, value, spot, assigned}
 use Rattle.control_points.specs.Fits.{routine_at}
 use Rattle.control_points.specs.Input.{Taken, next_number, after_line}
-use Rattle.control_points.specs.Output.{Written, is_width, in_columns}
+use Rattle.control_points.specs.Output.{Written, is_width}
 use Rattle.control_points.specs.States.{Stack, State}
 use Rattle.control_points.specs.Storage.{Place}
-use Rattle.control_points.specs.ValidStates.{Denotes, Exists, IsOf, IsStored, IsStack, IsValid, type_of_place, type_of_variable}
-use Rattle.control_points.specs.WellFormed.{TablesFit, IsWellFormed}
-use Rattle.control_points.proofs.ValidBasics.{no_error, same_Ok, then_ok, checked_ok, defined_ok, if_done, unless_done, same_effect, holds_found, found_once, same_kind}
+use Rattle.control_points.specs.ValidStates.{Denotes, IsOf, IsStored, IsValid, type_of_variable}
+use Rattle.control_points.specs.WellFormed.{IsWellFormed}
+use Rattle.control_points.proofs.ValidBasics.{no_error, then_ok, checked_ok, defined_ok, if_done, unless_done, same_effect, holds_found}
 use Rattle.control_points.proofs.ValidEffects.{EffectFits, stays, does_fit, line_is_input, rest_is_input}
 use Rattle.control_points.proofs.ValidPlaces.{spot_denotes, variable_denotes, var_type_is}
 
@@ -171,9 +169,10 @@ module _ (c : Chart) (w : IsWellFormed c) (s : State) (v : IsValid c s) (r p : �
       let high = then_ok (checked (fits_type c n (y.0)) ValueOutOfRange (out-Expr last).first (y.0)) _ (Some f) low.2 in
       let a = checked_ok (fits_type c n (x.0)) ValueOutOfRange (out-Expr first).first (x.0) low.0 low.1 in
       let b = checked_ok (fits_type c n (y.0)) ValueOutOfRange (out-Expr last).first (y.0) high.0 high.1 in
-      does_fit c s v p r here at (sets ((view c s).place control) (Some (low.0)) ∷ sets ((view c s).place bound) (Some (high.0)) ∷ [])
-      (stored_at c s.stack ((view c s).place control) _ low.0 (control_denotes control bound scope) (subst (λ q. fits_type c n q ≡ true) a.1 a.0),
-      (stored_at c s.stack ((view c s).place bound) _ high.0 (bound_denotes control bound scope same) (subst (λ q. fits_type c n q ≡ true) b.1 b.0), tt))
+      does_fit c s v p r here at (sets ((view c s).place control) (Some (low.0)) ∷ sets ((view c s).place bound) (Some (high.0)) ∷ []) (
+        stored_at c s.stack ((view c s).place control) _ low.0 (control_denotes control bound scope) (subst (λ q. fits_type c n q ≡ true) a.1 a.0),
+        (stored_at c s.stack ((view c s).place bound) _ high.0 (bound_denotes control bound scope same) (subst (λ q. fits_type c n q ≡ true) b.1 b.0), tt),
+      )
       f high.2
 
   pub bypass_fits : (control : ℕ) (first : Expr) (down : Bool) (last : Expr) (f : Effect) → bypass c s control first down last ≡ Ok (Some f) → EffectFits c s p f
@@ -194,8 +193,8 @@ module _ (c : Chart) (w : IsWellFormed c) (s : State) (v : IsValid c s) (r p : �
       let a = v.stored ((view c s).place control) x.0 (defined_ok place (s.store ((view c s).place control)) x.0 x.1) in
       let b = v.stored ((view c s).place bound) y.0 (defined_ok place (s.store ((view c s).place bound)) y.0 y.1) in
       let fits =
-          stepped_value down (type_of_variable c.tables control) x.0 y.0
-          (ap (λ d. is_value_of d (x.0)) (sym turn.typed) ∙ a.fits) (ap (λ d. is_value_of d (y.0)) (sym last.typed) ∙ b.fits) z.0 in
+      stepped_value down (type_of_variable c.tables control) x.0 y.0
+      (ap (λ d. is_value_of d (x.0)) (sym turn.typed) ∙ a.fits) (ap (λ d. is_value_of d (y.0)) (sym last.typed) ∙ b.fits) z.0 in
       does_fit c s v p r here at (sets ((view c s).place control) (Some (stepped down (x.0))) ∷ []) (stored_at c s.stack ((view c s).place control) _ (stepped down (x.0)) turn fits, tt) f z.1
 
   pub finish_fits : (control bound : ℕ) (down : Bool) (place : ℕ) (f : Effect) → finish c s control bound down place ≡ Ok (Some f) → EffectFits c s p f

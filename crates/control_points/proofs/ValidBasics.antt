@@ -1,7 +1,6 @@
 -- What follows from the answers of tests, of look-ups and of evaluations.
-use Rattle.std.proofs.Common.{◌≡◌, ℕ, ◌<◌, ◌≤◌, Bool, true, false, cond, ◌&&◌, ◌||◌, List, [], ◌∷◌, ◌++◌, ℤ, length, refl, sym, ap, subst, ◌∙◌, inl, inr, ◌⊎◌, Option, Some, None, Result, Ok, Err, option_map, option_and_then, nat_eq, nat_lt, int_eq, if◌then◌else◌, arith, eqb-true, eq-eqb}
-use Rattle.std.proofs.lemmas.Bool.{and_parts, and_from, cases_Bool, cond-true, cond-false, true≢false, ne_eqb}
-use Rattle.std.proofs.lemmas.Bool.Decides.{Decides-int_eq}
+use Rattle.std.proofs.Common.{◌≡◌, ℕ, Bool, true, false, cond, ℤ, refl, sym, ap, ◌∙◌, Option, Some, None, Ok, Err, option_map, option_and_then}
+use Rattle.std.proofs.lemmas.Bool.{true≢false}
 use Rattle.std.proofs.lemmas.Option.{none-some, same_Some}
 use Rattle.px_base.specs.declared.kind.Kind.{Kind}
 use Rattle.pas_program.specs.Tables.{holds_of, is_kind}
@@ -9,7 +8,7 @@ use Rattle.pas_program.specs.declared.variable.VarKind.{VarKind}
 use Rattle.pas_program.specs.declared.variable.VarKind.TheVariants as kind
 use Rattle.control_points.specs.declared.fault.Fault.{Fault}
 use Rattle.control_points.specs.Actions.{Effect, Outcome}
-use Rattle.control_points.specs.Evaluation.{Answer, then_with, checked, fault, defined}
+use Rattle.control_points.specs.Evaluation.{Answer, then_with, checked, defined}
 
 -- ---- answers
 

@@ -1,6 +1,6 @@
 -- What a call, a return and a `goto` do: a call makes an activation that stands rightly on those below it, and the others end the
 -- latest activations.
-use Rattle.std.proofs.Common.{◌≡◌, ℕ, zero, suc, ◌-◌, ◌<◌, ◌≤◌, Bool, true, false, cond, ◌&&◌, ◌||◌, List, [], ◌∷◌, ◌++◌, ℤ, All, map, length, refl, sym, ap, subst, ◌∙◌, inl, inr, Ok, Option, Some, None, unwrap_or, option_and_then, slice_get, nat_eq, eqb-true, eq-eqb, arith}
+use Rattle.std.proofs.Common.{◌≡◌, ℕ, suc, ◌-◌, ◌<◌, Bool, true, false, ◌&&◌, List, [], ◌∷◌, ◌++◌, ℤ, All, map, length, refl, sym, ap, subst, ◌∙◌, inl, inr, Ok, Option, Some, None, unwrap_or, option_and_then, slice_get, nat_eq, eqb-true, eq-eqb, arith}
 use Rattle.std.proofs.lemmas.Bool.{and_parts, eqb-false, or_cases, or_left, or_right, cases_Bool, cond-true, cond-false, true≢false}
 use Rattle.std.proofs.lemmas.List.Elements.{All-nil, All-cons, All-append}
 use Rattle.std.proofs.lemmas.Option.{none-some, same_Some}
@@ -11,7 +11,6 @@ use Rattle.pas_program.specs.declared.expr.Actual.TheOpen.{Actual-F}
 use Rattle.pas_program.specs.declared.expr.Actual.TheViews.{out-Actual}
 use Rattle.pas_program.specs.declared.expr.Expr.{Expr}
 use Rattle.pas_program.specs.declared.expr.ExprForm.{ExprForm}
-use Rattle.pas_program.specs.declared.type_def.TypeDef.{TypeDef}
 use Rattle.pas_program.specs.declared.variable.VarDef.{VarDef}
 use Rattle.pas_program.specs.declared.variable.VarKind.{VarKind}
 use Rattle.pas_program.specs.declared.variable.VarKind.TheVariants as kind
@@ -20,26 +19,25 @@ use Rattle.pas_program.specs.Each.{Rule, all_true, each_access, each_actual, eac
 use Rattle.pas_program.specs.Scopes.{contains, scope_rule}
 use Rattle.pas_program.specs.Tables.{Tables, Head, holds_of, is_around, is_callable, is_kind, is_own}
 use Rattle.pas_program.specs.Typed.{Hosted, Reached, Passed, hosted, hosted_form, reached, passed, is_passed_to, are_passed_to, function_fits, procedure_fits, actual_type_step, form_type_step, access_type_step, expr_type_step}
-use Rattle.pas_program.specs.Types.{is_array, has_host}
 use Rattle.control_points.specs.declared.edge.Act.{Act}
 use Rattle.control_points.specs.declared.edge.Act.TheVariants as act
 use Rattle.control_points.specs.declared.edge.Edge.{Edge}
-use Rattle.control_points.specs.Actions.{Change, sets, copies, at_depth, anew, Effect, Outcome, Passing, no_passing, both, top_depth, top_call, slot_of, slot_at, was_made_by, result_of, result_value, view, pass_to, pass, frame_of_call, formals_of, call, give_back, return_from, jump, goes_on}
+use Rattle.control_points.specs.Actions.{sets, at_depth, Effect, Passing, no_passing, top_depth, top_call, slot_of, slot_at, was_made_by, result_of, result_value, view, pass_to, pass, frame_of_call, formals_of, call, give_back, return_from, jump}
 use Rattle.control_points.specs.Acts.{each_act, act_types_fit, callee_passes, callee_fits}
 use Rattle.control_points.specs.Chart.{Chart}
-use Rattle.control_points.specs.Evaluation.{Answer, View, Spot, then_with, checked, is_value_of, var_type, spot, assigned}
-use Rattle.control_points.specs.Finding.{around, frame_at, bound_to}
+use Rattle.control_points.specs.Evaluation.{is_value_of, var_type, spot, assigned}
+use Rattle.control_points.specs.Finding.{around, bound_to}
 use Rattle.control_points.specs.Fits.{callee_of, routine_at}
-use Rattle.control_points.specs.States.{Binding, Frame, Activation, Stack, State}
+use Rattle.control_points.specs.States.{Binding, Activation, Stack, State}
 use Rattle.control_points.specs.Steps.{down_to, point_of}
 use Rattle.control_points.specs.Storage.{Place, whole}
-use Rattle.control_points.specs.ValidStates.{Denotes, Exists, IsOf, IsBound, IsMain, IsCallee, IsStored, IsStack, IsValid, type_of_place, type_of_variable}
-use Rattle.control_points.specs.WellFormed.{TablesFit, IsWellFormed}
+use Rattle.control_points.specs.ValidStates.{Denotes, Exists, IsOf, IsBound, IsCallee, IsStack, IsValid, type_of_variable}
+use Rattle.control_points.specs.WellFormed.{IsWellFormed}
 use Rattle.control_points.proofs.ValidActions.{array_typed, assigned_fits, stored_at}
-use Rattle.control_points.proofs.ValidBasics.{no_error, same_Ok, then_ok, and_then_found, if_done, same_effect, holds_found, found_once, same_kind}
+use Rattle.control_points.proofs.ValidBasics.{no_error, same_Ok, then_ok, if_done, same_effect, holds_found, found_once, same_kind}
 use Rattle.control_points.proofs.ValidEffects.{EffectFits, lands}
 use Rattle.control_points.proofs.ValidPlaces.{some_found, around_seen, spot_denotes, var_type_is, whole_denotes}
-use Rattle.control_points.proofs.ValidStacks.{IsFound, down_frames, frame_below, frame_kept, frame_of_latest, latest_found, standing_routine, is_of_above, exists_above, top_is}
+use Rattle.control_points.proofs.ValidStacks.{down_frames, frame_below, frame_kept, frame_of_latest, latest_found, standing_routine, is_of_above, top_is}
 use Rattle.control_points.proofs.ValidStores.{ChangesFit, changes_joined, stored_moved}
 
 -- ---- bindings
@@ -205,8 +203,8 @@ module _ (c : Chart) (w : IsWellFormed c) (s : State) (v : IsValid c s) (r : ℕ
       let n = and_parts (holds_of (is_passed_to c.tables (passed c.tables d)) (c.tables.var_at f)) _ types in
       let x = holds_found (is_passed_to c.tables (passed c.tables d)) (c.tables.var_at f) n.0 in
       let one =
-          actual_fits f x.0 x.1 (own f x.0 (first_among f formals) x.1) (out-Actual d)
-          (sym (each_actual_is (scope_rule c.tables r) d) ∙ m.0) (ap (λ k. is_passed_to c.tables k (x.0)) (sym (passed_is c.tables d)) ∙ x.2) y.0 y.1 in
+      actual_fits f x.0 x.1 (own f x.0 (first_among f formals) x.1) (out-Actual d)
+      (sym (each_actual_is (scope_rule c.tables r) d) ∙ m.0) (ap (λ k. is_passed_to c.tables k (x.0)) (sym (passed_is c.tables d)) ∙ x.2) y.0 y.1 in
       let rest = passed_all actuals formals (λ g u among. own g u (later_among f g formals among)) m.1 n.1 z.0 z.1 in
       subst (AllFit (f ∷ formals)) (same_Ok _ q z.2)
       (record {
@@ -269,36 +267,36 @@ module _ (c : Chart) (w : IsWellFormed c) (s : State) (v : IsValid c s) (r p : �
       let frame = frame_of_call c s k routine (c.tables.head_at routine) (y.0).bindings in
       let a : Activation = record { frame = frame; point = p } in
       let all =
-          passed_all c w s v r here a actuals x.head.formals
-          (λ g d among there. w.tables.of_routine routine g x.head d x.known among there) x.scope x.types y.0
-          (ap (λ o. pass c s actuals (formals_of c s o)) (sym x.known) ∙ y.1) in
+      passed_all c w s v r here a actuals x.head.formals
+      (λ g d among there. w.tables.of_routine routine g x.head d x.known among there) x.scope x.types y.0
+      (ap (λ o. pass c s actuals (formals_of c s o)) (sym x.known) ∙ y.1) in
       let found = around_seen c w.tables s.stack v.stack (top_depth s.stack) r x.outer here x.seen in
       subst (EffectFits c s p) (same_effect _ f y.2)
       (record {
         stack =
-          push_is_stack c a s.stack v.stack
-          (record {
-            edge = k;
-            site = e;
-            head = x.head;
-            outer = x.outer;
-            depth = found.depth;
-            made = refl;
-            known = known;
-            callee = callee;
-            waits = waits;
-            declared = x.known;
-            declares = x.declares;
-            parent =
-              ap (option_and_then (λ (g : Head). option_and_then (λ q. around s.stack (top_depth s.stack) q) g.parent)) x.known
-              ∙ ap (option_and_then (λ q. around s.stack (top_depth s.stack) q)) x.declares
-              ∙ found.found;
-            found = found.found;
-            within = found.is_of;
-            bindings = all.fits.bindings;
-            bound = λ u own. bound_of routine x.head x.known y.0 a all u own;
-            stands = at;
-          });
+            push_is_stack c a s.stack v.stack
+            (record {
+              edge = k;
+              site = e;
+              head = x.head;
+              outer = x.outer;
+              depth = found.depth;
+              made = refl;
+              known = known;
+              callee = callee;
+              waits = waits;
+              declared = x.known;
+              declares = x.declares;
+              parent =
+                  ap (option_and_then (λ (g : Head). option_and_then (λ q. around s.stack (top_depth s.stack) q) g.parent)) x.known
+                  ∙ ap (option_and_then (λ q. around s.stack (top_depth s.stack) q)) x.declares
+                  ∙ found.found;
+              found = found.found;
+              within = found.is_of;
+              bindings = all.fits.bindings;
+              bound = λ u own. bound_of routine x.head x.known y.0 a all u own;
+              stands = at;
+            });
         frames = λ d below. frame_kept a s.stack d below;
         changes = all.fits.changes;
         items = v.items;
@@ -382,10 +380,10 @@ slot_fits t (act.Call routine actuals (Some u) name) caller callee slot is calls
       own = eqb-true (x.0).routine caller y.0;
       stored = ap (is_kind kind.Var) (sym (same_kind kind.Slot (x.0).kind y.1));
       typed =
-        ap (λ n. type_of_variable t (unwrap_or (option_and_then (λ (h : Head). h.result) (t.head_at n)) 0)) (sym same_routine)
-        ∙ ap (λ o. type_of_variable t (unwrap_or (option_and_then (λ (h : Head). h.result) o) 0)) h.1
-        ∙ ap (λ o. type_of_variable t (unwrap_or o 0)) result.1
-        ∙ ap t.type_at (var_type_is t result.0 d.0 d.1 ∙ sym (eqb-true (z.0).of_type (d.0).of_type z.2) ∙ sym (var_type_is t u z.0 z.1));
+          ap (λ n. type_of_variable t (unwrap_or (option_and_then (λ (h : Head). h.result) (t.head_at n)) 0)) (sym same_routine)
+          ∙ ap (λ o. type_of_variable t (unwrap_or (option_and_then (λ (h : Head). h.result) o) 0)) h.1
+          ∙ ap (λ o. type_of_variable t (unwrap_or o 0)) result.1
+          ∙ ap t.type_at (var_type_is t result.0 d.0 d.1 ∙ sym (eqb-true (z.0).of_type (d.0).of_type z.2) ∙ sym (var_type_is t u z.0 z.1));
     })
 slot_fits t _ caller callee slot is calls scope types = absurd (none-some slot is)
 
@@ -400,10 +398,12 @@ module _ (c : Chart) (w : IsWellFormed c) (s : State) (v : IsValid c s) (p j : �
       let lower = top_depth s.stack - 1 in
       let there = whole_denotes c w.tables s.stack lower slot y.variable y.known (record { frame = x.below.frame; activation = x.below.activation; routine = x.below.routine ∙ sym y.own }) y.stored in
       let from = v.stored (whole (top_depth s.stack) (result_of c s.stack)) z held in
-      let fits : is_value_of (type_of_variable c.tables slot) z ≡ true = ap (λ o. is_value_of o z) (sym y.typed) ∙ ap (λ n. is_value_of (type_of_variable c.tables n) z) (sym x.result) ∙ from.fits in
-      (stored_moved c s.stack (down_to s.stack lower p) (whole lower slot) z
-      (down_frames s.stack lower p lower (frame_below s.stack lower x.below.frame x.below.activation) (lt_suc lower))
-      (stored_at c s.stack (whole lower slot) _ z there fits), tt)
+      let fits : is_value_of (type_of_variable c.tables slot) z ≡ true = ap (λ o. is_value_of o z) (sym y.typed) ∙ ap (λ n. is_value_of (type_of_variable c.tables n) z) (sym x.result) ∙ from.fits in (
+        stored_moved c s.stack (down_to s.stack lower p) (whole lower slot) z
+            (down_frames s.stack lower p lower (frame_below s.stack lower x.below.frame x.below.activation) (lt_suc lower))
+            (stored_at c s.stack (whole lower slot) _ z there fits),
+        tt,
+      )
     where
       lt_suc : (n : ℕ) → n < suc n
       lt_suc n = omega arith

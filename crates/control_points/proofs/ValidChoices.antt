@@ -1,6 +1,6 @@
 -- Where none of the actions of a point is the one to be done, the point is that of a `case`.
-use Rattle.std.proofs.Common.{◌≡◌, ℕ, zero, suc, ◌+◌, ◌-◌, ◌<◌, ◌≤◌, Bool, true, false, cond, ◌&&◌, List, [], ◌∷◌, ◌++◌, ℤ, pos, int_eq, All, length, refl, sym, ap, subst, ◌∙◌, inl, inr, Ok, Err, Option, Some, None, option_map, option_and_then, slice_get, nat_eq, eqb-true, eq-eqb, arith, add-zero, zero-add}
-use Rattle.std.proofs.lemmas.Bool.{and_parts, cases_Bool, cond-true, cond-false, true≢false, false≢true}
+use Rattle.std.proofs.Common.{◌≡◌, ℕ, zero, suc, ◌+◌, ◌-◌, ◌<◌, ◌≤◌, Bool, true, false, cond, List, [], ◌∷◌, ℤ, pos, int_eq, All, length, refl, sym, ap, subst, ◌∙◌, inl, inr, Ok, Err, Option, Some, None, option_map, slice_get, nat_eq, eqb-true, eq-eqb, arith, add-zero, zero-add}
+use Rattle.std.proofs.lemmas.Bool.{and_parts, cases_Bool, cond-true, cond-false, true≢false}
 use Rattle.std.proofs.lemmas.List.Elements.{All-nil, All-cons, All-head, All-tail}
 use Rattle.std.proofs.lemmas.Option.{none-some, same_Some, slice_get_within}
 use Rattle.std.specs.Bool.{beq}
@@ -13,7 +13,6 @@ use Rattle.pas_program.specs.declared.expr.Expr.{Expr}
 use Rattle.pas_program.specs.declared.statement.WriteItem.{WriteItem}
 use Rattle.pas_program.specs.Each.{each_expr}
 use Rattle.pas_program.specs.Scopes.{scope_rule}
-use Rattle.pas_program.specs.Tables.{holds_of}
 use Rattle.pas_program.specs.Typed.{hosted}
 use Rattle.pas_program.specs.Types.{in_host}
 use Rattle.control_points.specs.declared.edge.Act.{Act}
@@ -22,20 +21,20 @@ use Rattle.control_points.specs.declared.edge.Edge.{Edge}
 use Rattle.control_points.specs.declared.point.Point.{Point}
 use Rattle.control_points.specs.declared.point.PointKind.{PointKind}
 use Rattle.control_points.specs.declared.point.PointKind.TheVariants as kind
-use Rattle.control_points.specs.Actions.{sets, Effect, Outcome, top_depth, top_call, was_made_by, slot_at, result_of, result_value, access_type, fits_type, view, does, goes_on, assign, copy, call, pass, formals_of, give_back, return_from, jump, test, enter, bypass, next_turn, finish, in_order, comes_before, with_taken, read, drop_line, puts_out, written_value, write_in, write, effect_of}
+use Rattle.control_points.specs.Actions.{sets, Effect, Outcome, top_depth, top_call, was_made_by, slot_at, result_of, result_value, access_type, fits_type, view, does, assign, copy, call, pass, formals_of, give_back, test, enter, bypass, next_turn, finish, in_order, comes_before, with_taken, read, written_value, write_in, write, effect_of}
 use Rattle.control_points.specs.Acts.{each_act, act_types_fit}
 use Rattle.control_points.specs.Chart.{Chart, numbers_from, leaving, place_of_point}
 use Rattle.control_points.specs.Evaluation.{Answer, Spot, then_with, checked, defined, var_type, value, spot, assigned}
-use Rattle.control_points.specs.Fits.{callee_of, is_return_of, routine_at, kind_at, act_at}
+use Rattle.control_points.specs.Fits.{is_return_of, routine_at, kind_at, act_at}
 use Rattle.control_points.specs.Input.{Taken, next_number}
-use Rattle.control_points.specs.Leading.{EdgesPair, IsCase, other_way, is_other_way, is_return, is_exit, is_arm, source_at}
+use Rattle.control_points.specs.Leading.{EdgesPair, IsCase, other_way, is_other_way, is_return, is_exit, is_arm}
 use Rattle.control_points.specs.Output.{Written, is_width}
 use Rattle.control_points.specs.States.{Stack, State}
 use Rattle.control_points.specs.Storage.{whole}
-use Rattle.control_points.specs.Steps.{after, point_of, is_halted, edge_effect, target_of, or_else, first_done}
+use Rattle.control_points.specs.Steps.{point_of, is_halted, edge_effect, or_else, first_done}
 use Rattle.control_points.specs.ValidStates.{IsOf, IsStack, IsValid}
 use Rattle.control_points.specs.WellFormed.{IsWellFormed}
-use Rattle.control_points.proofs.ValidBasics.{no_error, same_Ok, then_ok, defined_ok, and_then_found, map_found, holds_found, found_once}
+use Rattle.control_points.proofs.ValidBasics.{no_error, same_Ok, then_ok, defined_ok, and_then_found, map_found, holds_found}
 use Rattle.control_points.proofs.ValidNumbers.{boolean_to}
 use Rattle.control_points.proofs.ValidStacks.{latest_found, standing_routine}
 use Rattle.control_points.proofs.ValidValues.{expr_in_host}
@@ -108,7 +107,7 @@ module _ (c : Chart) (s : State) where
   -- the range of a `for` is stored where both of its values fit
   range_stored : (control bound : ℕ) (first last : Expr) (x y : ℤ)
       → then_with (checked (fits_type c (var_type c.tables control) x) ValueOutOfRange (out-Expr first).first x) (λ x. then_with (checked (fits_type c (var_type c.tables control) y) ValueOutOfRange (out-Expr last).first y) (λ y.
-        does c s (sets ((view c s).place control) (Some x) ∷ sets ((view c s).place bound) (Some y) ∷ []))) ≡ Ok None → ⊥
+      does c s (sets ((view c s).place control) (Some x) ∷ sets ((view c s).place bound) (Some y) ∷ []))) ≡ Ok None → ⊥
   range_stored control bound first last x y h =
       let a = then_ok (checked (fits_type c (var_type c.tables control) x) ValueOutOfRange (out-Expr first).first x) _ None h in
       let b = then_ok (checked (fits_type c (var_type c.tables control) y) ValueOutOfRange (out-Expr last).first y) _ None a.2 in
@@ -230,8 +229,8 @@ module _ (c : Chart) (w : IsWellFormed c) (pairs : EdgesPair c.main c.points c.e
       let f = holds_found (is_return_of x.edge) (act_at c.edges (suc x.edge)) (w.calls.return x.edge a.frame.routine x.site x.known x.callee) in
       let g = map_found (λ (e : Edge). e.act) (slice_get c.edges (suc x.edge)) f.0 f.1 in
       let from =
-          pairs.exit_once (g.0).from a.point a.frame.routine (w.calls.exit x.edge a.frame.routine x.site g.0 x.known g.1 x.callee) exit
-          (w.calls.exited x.edge a.frame.routine x.site g.0 x.known g.1 x.callee) x.stands in
+      pairs.exit_once (g.0).from a.point a.frame.routine (w.calls.exit x.edge a.frame.routine x.site g.0 x.known g.1 x.callee) exit
+      (w.calls.exited x.edge a.frame.routine x.site g.0 x.known g.1 x.callee) x.stands in
       returns x.edge g.0 g.1 (g.2 ∙ return_is x.edge f.0 f.2) from (ap (was_made_by x.edge) x.made ∙ eq-eqb x.edge x.edge refl)
 
 module _ (c : Chart) (w : IsWellFormed c) (pairs : EdgesPair c.main c.points c.edges) (s : State) (v : IsValid c s) (r : ℕ) (here : IsOf s.stack (top_depth s.stack) r) (stands : routine_at c.points (point_of s.stack) ≡ Some r)
@@ -320,7 +319,7 @@ module _ (c : Chart) (w : IsWellFormed c) (pairs : EdgesPair c.main c.points c.e
   point_is_case q known inside = record {
     leads = pairs.goes_on (point_of s.stack) q known inside;
     arms = λ k e there from.
-      edge_is_arm k e there from (pairs.returns k e q there (ap (slice_get c.points) from ∙ known) ∙ inside) e.act refl (place_of_point c.points e.from) (refused k e there from);
+        edge_is_arm k e there from (pairs.returns k e q there (ap (slice_get c.points) from ∙ known) ∙ inside) e.act refl (place_of_point c.points e.from) (refused k e there from);
   }
 
 -- where no action is done, the run has halted, or the point is that of a `case`

@@ -1,21 +1,21 @@
 -- The state after an effect is valid, where the effect lands on a stack that stands rightly and changes what exists there.
-use Rattle.std.proofs.Common.{◌≡◌, ℕ, zero, suc, ◌-◌, ◌<◌, ◌≤◌, Bool, true, false, cond, ◌&&◌, List, [], ◌∷◌, ◌++◌, ℤ, length, refl, sym, ap, subst, ◌∙◌, inl, inr, Ok, Option, Some, None, unwrap_or, option_and_then, arith}
+use Rattle.std.proofs.Common.{◌≡◌, ℕ, suc, ◌-◌, ◌<◌, List, [], ◌∷◌, length, sym, ap, subst, Ok, Some, arith}
 use Rattle.std.proofs.lemmas.Option.{none-some, same_Some}
-use Rattle.std.proofs.lemmas.List.Elements.{All-head, All-tail}
+use Rattle.std.proofs.lemmas.List.Elements.{All-tail}
 use Rattle.control_points.specs.declared.item.Item.{Item}
 use Rattle.control_points.specs.declared.item.Item.TheVariants.{Number, LineEnd, Junk}
-use Rattle.control_points.specs.Actions.{Change, sets, copies, Onward, at_depth, anew, Effect, Outcome, goes_on, does, top_depth}
+use Rattle.control_points.specs.Actions.{Change, at_depth, Effect, does, top_depth}
 use Rattle.control_points.specs.Chart.{Chart}
 use Rattle.control_points.specs.Finding.{frame_at}
 use Rattle.control_points.specs.Fits.{routine_at}
 use Rattle.control_points.specs.Input.{Taken, next_number, after_line}
 use Rattle.control_points.specs.Runs.{IsInput, IsInputItem}
-use Rattle.control_points.specs.States.{Frame, Activation, Stack, State}
-use Rattle.control_points.specs.Steps.{onward_stack, kept_height, after, down_to, point_of}
+use Rattle.control_points.specs.States.{State}
+use Rattle.control_points.specs.Steps.{onward_stack, kept_height, after, down_to}
 use Rattle.control_points.specs.ValidStates.{IsOf, IsStack, IsValid}
 use Rattle.control_points.proofs.ValidBasics.{same_effect}
-use Rattle.control_points.proofs.ValidStacks.{down_is_stack, down_frames, frame_below, frame_kept}
-use Rattle.control_points.proofs.ValidStores.{StoreFits, ChangesFit, kept_fits, changes_fit, changes_moved}
+use Rattle.control_points.proofs.ValidStacks.{down_is_stack, down_frames, frame_below}
+use Rattle.control_points.proofs.ValidStores.{ChangesFit, kept_fits, changes_fit, changes_moved}
 
 pub record EffectFits (c : Chart) (s : State) (p : ℕ) (e : Effect) : Type 0 where
   pub stack : IsStack c (onward_stack s.stack p e.onward)
@@ -27,8 +27,8 @@ pub after_is_valid : (c : Chart) (s : State) (p : ℕ) (e : Effect) → IsValid 
 after_is_valid c s p e v x = record {
   stack = x.stack;
   stored =
-    changes_fit c (onward_stack s.stack p e.onward) e.changes _
-    (kept_fits c s.stack (onward_stack s.stack p e.onward) (kept_height s.stack e.onward) x.frames s.store v.stored) x.changes;
+      changes_fit c (onward_stack s.stack p e.onward) e.changes _
+      (kept_fits c s.stack (onward_stack s.stack p e.onward) (kept_height s.stack e.onward) x.frames s.store v.stored) x.changes;
   items = x.items;
 }
 

@@ -1,8 +1,8 @@
 -- The entry of a routine is found where there is one.
-use Rattle.std.proofs.Common.{◌≡◌, ℕ, zero, suc, ◌+◌, ◌<◌, Bool, true, false, not, cond, ◌&&◌, List, [], ◌∷◌, length, refl, sym, ap, subst, ◌∙◌, inl, inr, Option, Some, None, option_map, unwrap_or, slice_get, nat_eq, nat_lt, position, eqb-true, eq-eqb, lt-ltb, one-add}
-use Rattle.std.proofs.lemmas.Bool.{and_parts, and_from, cases_Bool, cond-true, cond-false, true≢false, not_from_true, not_from_false}
+use Rattle.std.proofs.Common.{◌≡◌, ℕ, zero, suc, ◌+◌, Bool, true, not, ◌&&◌, List, [], ◌∷◌, length, sym, ap, ◌∙◌, inl, inr, Some, None, option_map, unwrap_or, slice_get, nat_eq, nat_lt, eqb-true, eq-eqb, lt-ltb, one-add}
+use Rattle.std.proofs.lemmas.Bool.{and_parts, and_from, cases_Bool, cond-true, cond-false, not_from_true, not_from_false}
 use Rattle.std.proofs.lemmas.Option.{none-some, same_Some, slice_get_within}
-use Rattle.std.specs.List.{position_or_len, prefix_len}
+use Rattle.std.specs.List.{position_or_len}
 use Rattle.control_points.specs.declared.point.Point.{Point}
 use Rattle.control_points.specs.declared.point.PointKind.{PointKind}
 use Rattle.control_points.specs.declared.point.PointKind.TheVariants as kind

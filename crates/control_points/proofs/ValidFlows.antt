@@ -1,22 +1,19 @@
 -- The chart of a flow is well formed: what it has of the program is what each checked program has.
-use Rattle.std.proofs.Common.{◌≡◌, ℕ, zero, suc, ◌-◌, ◌<◌, ◌≤◌, Bool, true, false, ◌&&◌, List, [], ◌∷◌, ℤ, length, refl, sym, ap, subst, ◌∙◌, Option, Some, None, is_some, is_none, option_map, slice_get, nat_eq, nat_lt, eqb-true, eq-eqb, ltb-true, arith}
+use Rattle.std.proofs.Common.{◌≡◌, ℕ, zero, suc, ◌-◌, ◌<◌, true, ◌&&◌, List, [], ◌∷◌, length, refl, sym, ap, subst, ◌∙◌, Option, Some, None, is_some, slice_get, nat_eq, nat_lt, eqb-true, ltb-true, arith}
 use Rattle.std.proofs.lemmas.Bool.{and_parts, and_from, true≢false}
-use Rattle.std.proofs.lemmas.Option.{none-some, same_Some, slice_get_within, slice_get_past}
+use Rattle.std.proofs.lemmas.Option.{none-some, slice_get_within}
 use Rattle.pas_program.specs.declared.program.Program.{Program}
 use Rattle.pas_program.specs.declared.routine.Routine.{Routine}
-use Rattle.pas_program.specs.declared.type_def.TypeDef.{TypeDef}
 use Rattle.pas_program.specs.declared.type_def.TypeDef.TheVariants.{Scalar, Array}
 use Rattle.pas_program.specs.declared.variable.VarDef.{VarDef}
 use Rattle.pas_program.specs.declared.variable.VarKind.TheVariants as kind
 use Rattle.pas_program.specs.Checked.{tables}
 use Rattle.pas_program.specs.Scopes.{contains, parent_fits, is_formal, scope_rule}
-use Rattle.pas_program.specs.Tables.{Tables, Head, head_of, holds_of, is_kind, is_own}
+use Rattle.pas_program.specs.Tables.{Head, head_of, is_kind, is_own}
 use Rattle.pas_program.specs.Types.{in_host}
-use Rattle.control_points.specs.declared.edge.Edge.{Edge}
 use Rattle.control_points.specs.declared.flow.Flow.{Flow}
 use Rattle.control_points.specs.declared.point.Point.{Point}
 use Rattle.control_points.specs.Acts.{each_act}
-use Rattle.control_points.specs.Fits.{routine_at}
 use Rattle.control_points.specs.Flows.{chart_of}
 use Rattle.control_points.specs.Leading.{EntriesFit, EdgesLead}
 use Rattle.control_points.specs.WellFormed.{TablesFit, IsWellFormed}
@@ -120,8 +117,8 @@ flow_is_well_formed f entries leads =
       entry = entries.entry (length f.program.routines - 1) (omega arith);
       types = f.edges_fit.types;
       scopes = λ k r e known stands.
-        let q = map_found (λ (x : Point). x.routine) (slice_get f.points e.from) r stands in
-        subst (λ n. each_act (scope_rule (tables f.program) n) e.act ≡ true) q.2 (f.edges_fit.scopes k e q.0 known q.1);
+          let q = map_found (λ (x : Point). x.routine) (slice_get f.points e.from) r stands in
+          subst (λ n. each_act (scope_rule (tables f.program) n) e.act ≡ true) q.2 (f.edges_fit.scopes k e q.0 known q.1);
       calls = f.calls_return;
       leads = leads;
     }

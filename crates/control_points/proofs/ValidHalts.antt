@@ -1,8 +1,7 @@
 -- A run halts at the exit of the program's block, when no other activation is there, and nowhere else.
-use Rattle.std.proofs.Common.{◌≡◌, ℕ, zero, suc, ◌-◌, ◌<◌, ◌↔◌, Bool, true, false, cond, List, [], ◌∷◌, length, refl, sym, ap, subst, ◌∙◌, inl, inr, Ok, Err, Option, Some, None, option_map, slice_get, nat_eq, eqb-true, eq-eqb, arith}
+use Rattle.std.proofs.Common.{◌≡◌, ℕ, suc, ◌-◌, ◌↔◌, true, false, [], ◌∷◌, length, refl, sym, ap, ◌∙◌, inl, inr, Ok, Err, Option, Some, None, slice_get, eqb-true, eq-eqb, arith}
 use Rattle.std.proofs.lemmas.Bool.{cases_Bool, cond-true, cond-false}
 use Rattle.std.proofs.lemmas.Option.{slice_get_within}
-use Rattle.control_points.specs.declared.fault.Fault.{Fault}
 use Rattle.control_points.specs.declared.point.Point.{Point}
 use Rattle.control_points.specs.declared.point.PointKind.TheVariants as kind
 use Rattle.control_points.specs.Chart.{Chart, leaving}
@@ -10,7 +9,7 @@ use Rattle.control_points.specs.Evaluation.{Answer}
 use Rattle.control_points.specs.Fits.{kind_at}
 use Rattle.control_points.specs.Leading.{EdgesPair, IsAtEnd}
 use Rattle.control_points.specs.States.{Stack, State}
-use Rattle.control_points.specs.Steps.{moves, halts, fails, point_of, is_halted, first_done, selector_of, progress, next}
+use Rattle.control_points.specs.Steps.{halts, point_of, is_halted, first_done, selector_of, progress, next}
 use Rattle.control_points.specs.ValidStates.{IsStack, IsValid}
 use Rattle.control_points.proofs.ValidBasics.{map_found}
 use Rattle.control_points.proofs.ValidChoices.{last_number}
@@ -49,8 +48,10 @@ progress_goes_on selector (Err f) h = cc
 pub halts_at_end : (c : Chart) → EdgesPair c.main c.points c.edges → (s : State) → IsValid c s → (next c s ≡ halts) ↔ IsAtEnd c.points (length s.stack) (point_of s.stack)
 halts_at_end c pairs s v =
     let ks = leaving c.edges (point_of s.stack) in
-    let goes = progress (selector_of c ks) (first_done c s ks) in
-    (λ h. elim (cases_Bool (is_halted c s.stack)) [
-      | inl e ↦ end_from c pairs s.stack v.stack e
-      | inr e ↦ absurd (progress_goes_on (selector_of c ks) (first_done c s ks) (sym (cond-false (is_halted c s.stack) halts goes e) ∙ h))
-    ], λ x. cond-true (is_halted c s.stack) halts goes (end_to c pairs s.stack v.stack x))
+    let goes = progress (selector_of c ks) (first_done c s ks) in (
+      λ h. elim (cases_Bool (is_halted c s.stack)) [
+        | inl e ↦ end_from c pairs s.stack v.stack e
+        | inr e ↦ absurd (progress_goes_on (selector_of c ks) (first_done c s ks) (sym (cond-false (is_halted c s.stack) halts goes e) ∙ h))
+      ],
+      λ x. cond-true (is_halted c s.stack) halts goes (end_to c pairs s.stack v.stack x),
+    )

@@ -1,8 +1,6 @@
 -- What operators give at numbers of their hosts is a number of the host that they give.
-use Rattle.std.proofs.Common.{◌≡◌, ℕ, zero, suc, ◌+◌, ◌-◌, ◌*◌, ◌/◌, ◌%◌, ◌<◌, ◌≤◌, Bool, true, false, cond, not, ◌&&◌, ℤ, pos, negsuc, neg_ℤ, ◌+ℤ◌, ◌-ℤ◌, ◌*ℤ◌, int_le, int_lt, int_eq, int_div, unsigned_abs, refl, sym, ap, subst, ◌∙◌, inl, inr, Result, Ok, Err, leb, ltb, le-leb, leb-true, ltb-true, div-le_self, mod-lt, le_trans, arith, ◌==◌}
+use Rattle.std.proofs.Common.{◌≡◌, ℕ, zero, suc, ◌/◌, ◌%◌, ◌<◌, ◌≤◌, Bool, true, false, cond, not, ◌&&◌, ℤ, pos, negsuc, neg_ℤ, ◌+ℤ◌, ◌-ℤ◌, ◌*ℤ◌, int_le, int_lt, int_eq, int_div, unsigned_abs, refl, sym, ap, subst, ◌∙◌, inl, inr, Result, Ok, Err, leb, le-leb, leb-true, ltb-true, div-le_self, le_trans, arith, ◌==◌}
 use Rattle.std.proofs.lemmas.Bool.{and_parts, and_from, cases_Bool, cond-true, cond-false, true≢false}
-use Rattle.std.proofs.lemmas.Int.{ints}
-use Rattle.std.specs.Bool.{beq}
 use Rattle.std.specs.Int.{int_min, int_max, int_rem_euclid}
 use Rattle.arithmetic.specs.Numbers.{is_number, is_boolean, truth}
 use Rattle.arithmetic.specs.Operators.{checked, quotient, modulus, negation, binary_result, unary_result}

@@ -1,8 +1,7 @@
 -- In a valid state each variable that is seen denotes a place that exists, and so does each access whose types fit and whose
 -- evaluation is no error.
-use Rattle.std.proofs.Common.{◌≡◌, ℕ, zero, suc, ◌<◌, Bool, true, false, cond, ◌&&◌, List, [], ◌∷◌, ◌++◌, ℤ, map, length, refl, sym, ap, subst, ◌∙◌, inl, inr, Ok, Option, Some, None, is_some, option_map, option_and_then, unwrap_or, nat_eq, append-nil, eqb-true, eq-eqb}
+use Rattle.std.proofs.Common.{◌≡◌, ℕ, Bool, true, false, ◌&&◌, List, [], ◌∷◌, ◌++◌, ℤ, map, refl, sym, ap, subst, ◌∙◌, inl, inr, Ok, Option, Some, None, is_some, option_map, option_and_then, unwrap_or, nat_eq, eq-eqb}
 use Rattle.std.proofs.lemmas.Bool.{and_parts, and_from, cases_Bool, cond-true, cond-false, true≢false}
-use Rattle.std.proofs.lemmas.Option.{none-some, same_Some}
 use Rattle.px_base.specs.declared.kind.Kind.TheVariants.{IndexOutOfRange}
 use Rattle.pas_program.specs.declared.expr.Access.{Access}
 use Rattle.pas_program.specs.declared.expr.Actual.TheFolds.{fold_out-Access}
@@ -21,13 +20,13 @@ use Rattle.pas_program.specs.Typed.{Hosted, Reached, Passed, hosted, reached, su
 use Rattle.control_points.specs.Actions.{top_depth, view}
 use Rattle.control_points.specs.Chart.{Chart}
 use Rattle.control_points.specs.Evaluation.{Answer, Valued, View, Spot, then_with, checked, is_value_of, index_type, element_type, subscript_values, var_type, spot, form_step, access_step, expr_step}
-use Rattle.control_points.specs.Finding.{around, frame_at, bound_to, own_place, seen_place, place_of}
-use Rattle.control_points.specs.States.{Binding, Frame, Activation, Stack, State}
+use Rattle.control_points.specs.Finding.{around, bound_to, own_place, seen_place, place_of}
+use Rattle.control_points.specs.States.{Frame, Stack, State}
 use Rattle.control_points.specs.Storage.{Place, whole, part}
-use Rattle.control_points.specs.ValidStates.{Denotes, Exists, IsOf, IsBound, IsStack, IsValid, led_to, type_of_place, type_of_variable}
+use Rattle.control_points.specs.ValidStates.{Denotes, IsOf, IsStack, led_to, type_of_place, type_of_variable}
 use Rattle.control_points.specs.WellFormed.{TablesFit}
-use Rattle.control_points.proofs.ValidBasics.{no_error, same_Ok, then_ok, checked_ok, and_then_found, holds_found, found_once, same_kind}
-use Rattle.control_points.proofs.ValidStacks.{IsFound, around_found, bound_in, frame_below}
+use Rattle.control_points.proofs.ValidBasics.{same_Ok, then_ok, checked_ok, holds_found}
+use Rattle.control_points.proofs.ValidStacks.{IsFound, around_found, bound_in}
 use Rattle.control_points.proofs.Values.{valued}
 
 -- ---- what subscripts lead to
@@ -113,8 +112,8 @@ module _ (c : Chart) (fits : TablesFit c.tables c.main) (stack : Stack) (is : Is
   own_denotes : (d v : ℕ) (x : VarDef) (k : VarKind) → x.kind ≡ k → c.tables.var_at v ≡ Some x → IsOf stack d x.routine → (p : Place) × (own_place stack v d k ≡ Some p) × Denotes c stack p (type_of_variable c.tables v)
   own_denotes d v x kind.Var e known of =
       let own : is_own c.tables of.frame.routine kind.Var v ≡ true =
-          ap (holds_of (λ (y : VarDef). nat_eq y.routine of.frame.routine && is_kind kind.Var y.kind)) known
-          ∙ and_from _ _ (eq-eqb x.routine of.frame.routine (sym of.routine)) (ap (is_kind kind.Var) e) in
+      ap (holds_of (λ (y : VarDef). nat_eq y.routine of.frame.routine && is_kind kind.Var y.kind)) known
+      ∙ and_from _ _ (eq-eqb x.routine of.frame.routine (sym of.routine)) (ap (is_kind kind.Var) e) in
       let b = bound_in c fits stack is d of.frame of.activation v own in
       (b.place, ap (option_and_then (λ (f : Frame). bound_to v f.bindings)) of.activation ∙ b.known, record { exists = b.exists; typed = b.typed })
   own_denotes d v x kind.Local e known of = (whole d v, refl, whole_denotes c fits stack d v x known of (ap (is_kind kind.Var) e))
@@ -136,16 +135,16 @@ module _ (c : Chart) (fits : TablesFit c.tables c.main) (stack : Stack) (is : Is
       let y = around_seen d r (x.0).routine of x.2 in
       let z = own_denotes y.depth v x.0 (x.0).kind refl x.1 y.is_of in
       let seen : seen_place c.tables stack d v ≡ Some (z.0) =
-          ap (option_and_then (λ (q : VarDef). option_and_then (λ e. own_place stack v e q.kind) (around stack d q.routine))) x.1
-          ∙ ap (option_and_then (λ e. own_place stack v e (x.0).kind)) y.found
-          ∙ z.1 in
+      ap (option_and_then (λ (q : VarDef). option_and_then (λ e. own_place stack v e q.kind) (around stack d q.routine))) x.1
+      ∙ ap (option_and_then (λ e. own_place stack v e (x.0).kind)) y.found
+      ∙ z.1 in
       subst (λ p. Denotes c stack p (type_of_variable c.tables v)) (sym (ap (λ o. unwrap_or o (whole d v)) seen)) z.2
 
   -- what an access denotes, where its evaluation is no error
   part_denotes : (p : Place) (v : ℕ) (zs : List ℤ) (n : ℕ) (d : TypeDef) → Denotes c stack p (type_of_variable c.tables v) → led_to c.tables zs (type_of_variable c.tables v) ≡ c.tables.type_at n → c.tables.type_at n ≡ Some d → Denotes c stack (part p zs) (c.tables.type_at n)
   part_denotes p v zs n d x led known =
       let typed : type_of_place c.tables (part p zs) ≡ c.tables.type_at n =
-          led_on c.tables p.subscripts zs (type_of_variable c.tables p.var) ∙ ap (led_to c.tables zs) x.typed ∙ led in
+      led_on c.tables p.subscripts zs (type_of_variable c.tables p.var) ∙ ap (led_to c.tables zs) x.typed ∙ led in
       record {
         exists = record {
           frame = x.exists.frame;
@@ -191,13 +190,13 @@ module _ (c : Chart) (fits : TablesFit c.tables c.main) (s : State) (is : IsStac
       let seen = and_parts (is_visible t r x.var) _ (sym (each_access_is (scope_rule t r) a) ∙ scope) in
       let way = from_variable t (map (hosted t) x.subscripts) (t.var_at x.var) (ap (λ (y : Reached). y.fits) (sym (reached_is t a)) ∙ types) in
       let reach : (reached t a).of_type ≡ (subscripted t (way.0).of_type (map (hosted t) x.subscripts)).of_type =
-          ap (λ (y : Reached). y.of_type) (reached_is t a ∙ ap (access_from t (map (hosted t) x.subscripts)) way.1) in
+      ap (λ (y : Reached). y.of_type) (reached_is t a ∙ ap (access_from t (map (hosted t) x.subscripts)) way.1) in
       let own = var_type_is t x.var way.0 way.1 in
       let y = then_ok (subscript_values t (var_type t x.var) (map (valued (view c s)) x.subscripts)) _ p (sym (spot_is (view c s) a) ∙ h) in
       let led : led_to t y.0 (type_of_variable t x.var) ≡ t.type_at (reached t a).of_type =
-          led_by t (hosted t) (valued (view c s)) x.subscripts (var_type t x.var) y.0 (subst (λ n. (subscripted t n (map (hosted t) x.subscripts)).fits ≡ true) (sym own) way.2) y.1
-          ∙ ap (λ n. t.type_at (subscripted t n (map (hosted t) x.subscripts)).of_type) own
-          ∙ ap t.type_at (sym reach) in
+      led_by t (hosted t) (valued (view c s)) x.subscripts (var_type t x.var) y.0 (subst (λ n. (subscripted t n (map (hosted t) x.subscripts)).fits ≡ true) (sym own) way.2) y.1
+      ∙ ap (λ n. t.type_at (subscripted t n (map (hosted t) x.subscripts)).of_type) own
+      ∙ ap t.type_at (sym reach) in
       subst (λ (q : Spot). Denotes c s.stack q.place (t.type_at (reached t a).of_type)) (same_Ok _ p y.2)
       (part_denotes c fits s.stack is ((view c s).place x.var) x.var y.0 (reached t a).of_type d (variable_denotes x.var seen.0) led known)
 

@@ -1,19 +1,19 @@
 -- Stacks of activations: what is found in one, in one with a new activation, and in one that some have left.
-use Rattle.std.proofs.Common.{◌≡◌, ℕ, zero, suc, ◌-◌, ◌<◌, ◌≤◌, Bool, true, false, cond, ◌&&◌, ◌||◌, List, [], ◌∷◌, length, refl, sym, ap, subst, ◌∙◌, inl, inr, Option, Some, None, option_and_then, nat_eq, nat_lt, arith, eqb-true, eq-eqb, ne_eqb}
-use Rattle.std.proofs.lemmas.Bool.{eqb-false, and_parts, or_cases, cases_Bool, cond-true, cond-false, true≢false}
-use Rattle.std.proofs.lemmas.Option.{none-some, same_Some}
-use Rattle.pas_program.specs.Tables.{Tables, Head, holds_of, leads_within, is_around, is_own}
+use Rattle.std.proofs.Common.{◌≡◌, ℕ, zero, suc, ◌<◌, true, false, List, [], ◌∷◌, length, refl, sym, ap, subst, ◌∙◌, inl, inr, Some, None, option_and_then, nat_eq, arith, eqb-true, eq-eqb, ne_eqb}
+use Rattle.std.proofs.lemmas.Bool.{eqb-false, or_cases, cases_Bool, cond-true, cond-false, true≢false}
+use Rattle.std.proofs.lemmas.Option.{none-some}
+use Rattle.pas_program.specs.Tables.{Head, holds_of, leads_within, is_own}
 use Rattle.pas_program.specs.declared.variable.VarKind.TheVariants as kind
 use Rattle.control_points.specs.Actions.{top_depth}
 use Rattle.control_points.specs.Chart.{Chart}
-use Rattle.control_points.specs.Finding.{around, frame_at, bound_to}
+use Rattle.control_points.specs.Finding.{around, frame_at}
 use Rattle.control_points.specs.Fits.{routine_at}
 use Rattle.control_points.specs.States.{Binding, Frame, Activation, Stack}
 use Rattle.control_points.specs.Steps.{down_to, point_of}
 use Rattle.control_points.specs.Storage.{Place}
-use Rattle.control_points.specs.ValidStates.{Exists, IsOf, IsBound, IsMain, IsCallee, IsStack}
+use Rattle.control_points.specs.ValidStates.{Exists, IsOf, IsBound, IsCallee, IsStack}
 use Rattle.control_points.specs.WellFormed.{TablesFit}
-use Rattle.control_points.proofs.ValidBasics.{and_then_found, holds_found, found_once}
+use Rattle.control_points.proofs.ValidBasics.{holds_found, found_once}
 
 -- ---- the frame at a depth
 
@@ -100,8 +100,8 @@ module _ (c : Chart) (fits : TablesFit c.tables c.main) where
   at_latest a below d s e is = record {
     depth = d;
     found =
-      cond-true (nat_eq d (length below)) _ (around below d s) (eq-eqb d (length below) e)
-      ∙ cond-true (nat_eq a.frame.routine s) (Some d) _ (eq-eqb a.frame.routine s is);
+        cond-true (nat_eq d (length below)) _ (around below d s) (eq-eqb d (length below) e)
+        ∙ cond-true (nat_eq a.frame.routine s) (Some d) _ (eq-eqb a.frame.routine s is);
     is_of = record { frame = a.frame; activation = frame_of_latest a below d e; routine = is };
   }
 
@@ -110,10 +110,10 @@ module _ (c : Chart) (fits : TablesFit c.tables c.main) where
   from_outer a below d depth s e is_not parent x = record {
     depth = x.depth;
     found =
-      cond-true (nat_eq d (length below)) _ (around below d s) (eq-eqb d (length below) e)
-      ∙ cond-false (nat_eq a.frame.routine s) (Some d) _ is_not
-      ∙ ap (option_and_then (λ p. around below p s)) parent
-      ∙ x.found;
+        cond-true (nat_eq d (length below)) _ (around below d s) (eq-eqb d (length below) e)
+        ∙ cond-false (nat_eq a.frame.routine s) (Some d) _ is_not
+        ∙ ap (option_and_then (λ p. around below p s)) parent
+        ∙ x.found;
     is_of = is_of_above a below x.depth s x.is_of;
   }
 

@@ -1,13 +1,13 @@
 -- A run begins in a valid state, and each step leads from a valid state to a valid state.
-use Rattle.std.proofs.Common.{◌≡◌, ℕ, zero, suc, ◌+◌, ◌-◌, ◌<◌, ◌≤◌, Bool, true, false, cond, ◌&&◌, List, [], ◌∷◌, ℤ, All, refl, sym, ap, subst, ◌∙◌, inl, inr, Ok, Err, Option, Some, None, slice_get, nat_eq, eqb-true, arith, add-zero, zero-add, add-suc}
-use Rattle.std.proofs.lemmas.Bool.{and_parts, cases_Bool, cond-true, cond-false, true≢false}
+use Rattle.std.proofs.Common.{◌≡◌, ℕ, zero, suc, ◌+◌, Bool, true, cond, ◌&&◌, List, [], ◌∷◌, ℤ, All, refl, sym, ap, subst, ◌∙◌, inl, inr, Ok, Err, Option, Some, None, slice_get, nat_eq, eqb-true, arith, add-zero, zero-add}
+use Rattle.std.proofs.lemmas.Bool.{and_parts, cases_Bool, cond-true, cond-false}
 use Rattle.std.proofs.lemmas.List.Elements.{All-nil, All-cons, All-head, All-tail}
 use Rattle.std.proofs.lemmas.Option.{none-some, same_Some}
 use Rattle.pas_program.specs.declared.expr.Access.{Access}
 use Rattle.pas_program.specs.declared.expr.Expr.{Expr}
 use Rattle.pas_program.specs.Each.{each_access, each_expr}
 use Rattle.pas_program.specs.Scopes.{scope_rule}
-use Rattle.pas_program.specs.Tables.{holds_of, is_own, is_visible}
+use Rattle.pas_program.specs.Tables.{is_visible}
 use Rattle.pas_program.specs.Typed.{Hosted, hosted, reached, loop_fits}
 use Rattle.pas_program.specs.Types.{in_host}
 use Rattle.control_points.specs.declared.edge.Act.{Act}
@@ -17,14 +17,14 @@ use Rattle.control_points.specs.declared.fault.Fault.{Fault}
 use Rattle.control_points.specs.declared.item.Item.{Item}
 use Rattle.control_points.specs.Actions.{Effect, Outcome, top_depth, view, effect_of}
 use Rattle.control_points.specs.Acts.{each_act, act_types_fit, turn_fits}
-use Rattle.control_points.specs.Chart.{Chart, numbers_from, leaving, entry_of, place_of_point}
+use Rattle.control_points.specs.Chart.{Chart, numbers_from, leaving, place_of_point}
 use Rattle.control_points.specs.Evaluation.{Answer, Spot, value, spot}
 use Rattle.control_points.specs.Fits.{callee_of, routine_at}
 use Rattle.control_points.specs.Leading.{goes_on_after}
 use Rattle.control_points.specs.Runs.{start, at, moved, step_from, IsInput}
-use Rattle.control_points.specs.States.{Stack, State}
+use Rattle.control_points.specs.States.{State}
 use Rattle.control_points.specs.Steps.{Progress, moves, halts, fails, after, point_of, is_halted, edge_effect, target_of, or_else, first_done, selector_of, progress, next}
-use Rattle.control_points.specs.ValidStates.{Denotes, IsOf, IsStack, IsValid, type_of_variable}
+use Rattle.control_points.specs.ValidStates.{Denotes, IsOf, IsValid, type_of_variable}
 use Rattle.control_points.specs.WellFormed.{IsWellFormed}
 use Rattle.control_points.proofs.ValidActions.{loop_type, skip_fits, assign_fits, copy_is_fit, test_fits, arm_fits, enter_fits, bypass_fits, next_turn_fits, finish_fits, read_fits, drop_line_fits, write_fits, puts_fit}
 use Rattle.control_points.proofs.ValidBasics.{no_error, same_Ok}

@@ -1,18 +1,15 @@
 -- Stores in which each number is one of a scalar that exists, and what the changes of a store keep of that.
-use Rattle.std.proofs.Common.{◌≡◌, ℕ, zero, suc, ◌<◌, Bool, true, false, cond, ◌&&◌, List, [], ◌∷◌, ◌++◌, ℤ, length, refl, sym, ap, subst, ◌∙◌, inl, inr, Option, Some, None, nat_eq, nat_lt, int_eq, eqb-true, ltb-true}
+use Rattle.std.proofs.Common.{◌≡◌, ℕ, ◌<◌, true, List, [], ◌∷◌, ◌++◌, ℤ, length, refl, sym, ap, subst, ◌∙◌, inl, inr, Option, Some, None, nat_eq, nat_lt, int_eq, eqb-true, ltb-true}
 use Rattle.std.proofs.lemmas.Bool.{and_parts, cases_Bool, cond-true, cond-false, true≢false}
 use Rattle.std.proofs.lemmas.Bool.Decides.{Decides-int_eq}
 use Rattle.std.proofs.lemmas.Option.{none-some, same_Some}
-use Rattle.pas_program.specs.declared.type_def.TypeDef.{TypeDef}
-use Rattle.pas_program.specs.declared.type_def.TypeDef.TheVariants.{Scalar, Array}
-use Rattle.pas_program.specs.Tables.{Tables}
 use Rattle.control_points.specs.Actions.{Change, sets, copies}
 use Rattle.control_points.specs.Chart.{Chart}
-use Rattle.control_points.specs.Evaluation.{is_value_of, var_type}
+use Rattle.control_points.specs.Evaluation.{is_value_of}
 use Rattle.control_points.specs.Finding.{frame_at}
 use Rattle.control_points.specs.States.{Stack}
 use Rattle.control_points.specs.Steps.{change, change_all}
-use Rattle.control_points.specs.Storage.{Place, Store, part, same_subscripts, same_variable, same_place, subscripts_after, within, copied, put, put_copy, keep_below, empty_store}
+use Rattle.control_points.specs.Storage.{Place, Store, part, same_subscripts, same_variable, same_place, subscripts_after, within, copied, put, keep_below, empty_store}
 use Rattle.control_points.specs.ValidStates.{Exists, IsStored, led_to, type_of_place, type_of_variable}
 use Rattle.control_points.proofs.ValidStacks.{exists_moved, frame_below}
 use Rattle.control_points.proofs.ValidPlaces.{led_on}
@@ -111,9 +108,9 @@ module _ (c : Chart) (stack : Stack) where
   copied_number store p source q z fits x same (Some zs) is h =
       let from = fits (part source zs) z h in
       let typed : type_of_place c.tables (part p zs) ≡ type_of_place c.tables (part source zs) =
-          led_on c.tables p.subscripts zs (type_of_variable c.tables p.var)
-          ∙ ap (led_to c.tables zs) same
-          ∙ sym (led_on c.tables source.subscripts zs (type_of_variable c.tables source.var)) in
+      led_on c.tables p.subscripts zs (type_of_variable c.tables p.var)
+      ∙ ap (led_to c.tables zs) same
+      ∙ sym (led_on c.tables source.subscripts zs (type_of_variable c.tables source.var)) in
       subst (λ w. IsStored c stack w z) (sym (within_is p q zs is))
       (record {
         exists = record {

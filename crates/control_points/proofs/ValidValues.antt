@@ -2,37 +2,35 @@
 use Rattle.std.proofs.Common.{◌≡◌, ℕ, Bool, true, false, ◌&&◌, List, ℤ, pos, neg_ℤ, int_le, map, refl, sym, ap, subst, ◌∙◌, Result, Ok, Err, Option, Some, None, option_and_then, nat_eq, arith}
 use Rattle.std.proofs.lemmas.Bool.{and_parts, and_from, true≢false}
 use Rattle.std.proofs.lemmas.Int.{ints}
-use Rattle.std.proofs.lemmas.Option.{none-some}
-use Rattle.arithmetic.specs.Operators.{binary_result, unary_result}
 use Rattle.px_base.specs.declared.kind.Kind.{Kind}
 use Rattle.pas_program.specs.declared.expr.Access.{Access}
 use Rattle.pas_program.specs.declared.expr.Actual.{Actual}
-use Rattle.pas_program.specs.declared.expr.Actual.TheFolds.{fold-roll-ExprForm, fold-roll-Expr, ind-Expr, map-Access, map-Actual, map-Expr, map-ExprForm}
-use Rattle.pas_program.specs.declared.expr.Actual.TheOpen.{Access-F, Actual-F, ExprForm-F, Expr-F}
-use Rattle.pas_program.specs.declared.expr.Actual.TheViews.{roll-Access, roll-Actual, roll-Expr, roll-ExprForm}
+use Rattle.pas_program.specs.declared.expr.Actual.TheFolds.{fold-roll-ExprForm, fold-roll-Expr, ind-Expr, map-Expr, map-ExprForm}
+use Rattle.pas_program.specs.declared.expr.Actual.TheOpen.{ExprForm-F, Expr-F}
+use Rattle.pas_program.specs.declared.expr.Actual.TheViews.{roll-Expr, roll-ExprForm}
 use Rattle.pas_program.specs.declared.expr.Expr.{Expr}
 use Rattle.pas_program.specs.declared.expr.ExprForm.{ExprForm}
 use Rattle.pas_program.specs.declared.type_def.TypeDef.{TypeDef}
 use Rattle.pas_program.specs.declared.type_def.TypeDef.TheVariants.{Scalar, Array}
 use Rattle.pas_program.specs.declared.variable.VarDef.{VarDef}
 use Rattle.pas_program.specs.declared.variable.VarKind.TheVariants as kind
-use Rattle.pas_program.specs.Each.{all_true, each_actual, each_expr, each_form}
+use Rattle.pas_program.specs.Each.{each_expr, each_form}
 use Rattle.pas_program.specs.Scopes.{scope_rule}
 use Rattle.pas_program.specs.Tables.{Tables, Head, holds_of, is_around, is_callable, is_kind, is_own}
-use Rattle.pas_program.specs.Typed.{Hosted, Reached, Passed, hosted, hosted_form, hosted_by, reached, passed, unary_takes, binary_takes, function_fits, type_of_var, actual_type_step, form_type_step, access_type_step, expr_type_step}
+use Rattle.pas_program.specs.Typed.{Hosted, Reached, Passed, hosted, hosted_form, hosted_by, reached, passed, type_of_var, actual_type_step, form_type_step, access_type_step, expr_type_step}
 use Rattle.pas_program.specs.Types.{in_host, maxint}
 use Rattle.pas_program.proofs.Weaker.{With, to_expr, to_form}
 use Rattle.control_points.specs.Actions.{top_depth, view}
 use Rattle.control_points.specs.Chart.{Chart}
-use Rattle.control_points.specs.Evaluation.{Answer, View, Spot, Valued, then_with, placed, defined, used, is_value_of, value, spot, form_step, access_step, expr_step}
+use Rattle.control_points.specs.Evaluation.{Answer, View, Spot, Valued, placed, used, is_value_of, value, spot, form_step, access_step, expr_step}
 use Rattle.control_points.specs.States.{State}
-use Rattle.control_points.specs.ValidStates.{Denotes, IsOf, IsValid, type_of_place, type_of_variable}
+use Rattle.control_points.specs.ValidStates.{Denotes, IsOf, IsValid, type_of_variable}
 use Rattle.control_points.specs.WellFormed.{TablesFit}
 use Rattle.control_points.proofs.ValidActions.{sees_own}
 use Rattle.control_points.proofs.ValidBasics.{no_error, same_Ok, then_ok, defined_ok, holds_found}
 use Rattle.control_points.proofs.ValidNumbers.{unary_in_host, binary_in_host}
 use Rattle.control_points.proofs.ValidPlaces.{spot_denotes, variable_denotes, var_type_is}
-use Rattle.control_points.proofs.Values.{valued, form_value, valued-expr, form_value-Const, form_value-Value, form_value-Unary, form_value-Binary}
+use Rattle.control_points.proofs.Values.{form_value, valued-expr, form_value-Const, form_value-Value, form_value-Unary, form_value-Binary}
 
 -- ---- hosts
 

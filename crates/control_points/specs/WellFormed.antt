@@ -1,5 +1,5 @@
 -- What a chart has that is that of a flow: what each step of a run rests on.
-use Rattle.std.specs.Prelude.{◌≡◌, ℕ, true, is_some, Option, Some, None, slice_get, ℤ}
+use Rattle.std.specs.Prelude.{◌≡◌, ℕ, true, is_some, Some, None, slice_get, ℤ}
 use Rattle.pas_program.specs.declared.type_def.TypeDef.TheVariants.{Scalar, Array}
 use Rattle.pas_program.specs.declared.variable.VarDef.{VarDef}
 use Rattle.pas_program.specs.declared.variable.VarKind.TheVariants as kind
