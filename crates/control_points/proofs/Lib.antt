@@ -1,6 +1,7 @@
 pub mod Examples
 pub mod ValidActions
 pub mod ValidBasics
+pub mod ValidCallers
 pub mod ValidCalls
 pub mod ValidChoices
 pub mod ValidEffects

@@ -21,6 +21,7 @@ use Rattle.control_points.specs.Chart.{Chart, numbers_from, leaving, place_of_po
 use Rattle.control_points.specs.Evaluation.{Answer, Spot, value, spot}
 use Rattle.control_points.specs.Fits.{callee_of, routine_at}
 use Rattle.control_points.specs.Leading.{goes_on_after}
+use Rattle.control_points.specs.Matching.{IsStep}
 use Rattle.control_points.specs.Runs.{start, at, moved, step_from, IsInput}
 use Rattle.control_points.specs.States.{State}
 use Rattle.control_points.specs.Steps.{Progress, moves, halts, fails, after, point_of, is_halted, edge_effect, target_of, or_else, first_done, selector_of, progress, next}
@@ -112,27 +113,30 @@ numbers_found (x ∷ xs) test n =
 
 -- ---- a step
 
-module _ (c : Chart) (w : IsWellFormed c) (s : State) (v : IsValid c s) where
+module _ (c : Chart) (s : State) where
   abbrev Leaves : ℕ → Type 0
   Leaves = IsNumbered c.edges (λ (e : Edge). nat_eq e.from (point_of s.stack)) 0
 
   -- the first edge of some that leave the point, or one of the others
-  first_or_others : (k : ℕ) → Leaves k → (t : State) (o : Outcome) (others : Answer (Option State)) → edge_effect c s k (slice_get c.edges k) ≡ o → (others ≡ Ok (Some t) → IsValid c t) → or_else c s k o others ≡ Ok (Some t) → IsValid c t
+  first_or_others : (k : ℕ) → Leaves k → (t : State) (o : Outcome) (others : Answer (Option State)) → edge_effect c s k (slice_get c.edges k) ≡ o → (others ≡ Ok (Some t) → IsStep c s t) → or_else c s k o others ≡ Ok (Some t) → IsStep c s t
   first_or_others k x t (Ok (Some f)) others is rest h =
       let known : slice_get c.edges k ≡ Some x.item = ap (slice_get c.edges) (sym x.number ∙ zero-add x.index) ∙ x.known in
-      let from = eqb-true (x.item).from (point_of s.stack) x.passes in
-      let r = standing_routine c s.stack v.stack in
-      let done = ap (edge_effect c s k) (sym known) ∙ is in
-      let to : target_of (slice_get c.edges k) ≡ (x.item).to = ap target_of known in
-      subst (IsValid c) (ap (λ p. after s p f) (sym to) ∙ same_Some _ t (same_Ok _ _ h))
-      (edge_leads_on c w s v r.0 (latest_found c s.stack v.stack r.0 r.1) k x.item known from (ap (routine_at c.points) from ∙ r.1) f done)
+      record {
+        number = k;
+        edge = x.item;
+        effect = f;
+        known = known;
+        leaves = eqb-true (x.item).from (point_of s.stack) x.passes;
+        done = ap (edge_effect c s k) (sym known) ∙ is;
+        leads = sym (same_Some _ t (same_Ok _ _ h)) ∙ ap (λ p. after s p f) (ap target_of known);
+      }
   first_or_others k x t (Ok None) others is rest h = rest h
   first_or_others k x t (Err f) others is rest h = absurd (no_error f (Some t) h)
 
-  first_is_valid : (ks : List ℕ) → All Leaves ks → (t : State) → first_done c s ks ≡ Ok (Some t) → IsValid c t
-  first_is_valid [] all t h = absurd (none-some t (same_Ok _ _ h))
-  first_is_valid (k ∷ ks) all t h =
-      first_or_others k (All-head Leaves k ks all) t (edge_effect c s k (slice_get c.edges k)) (first_done c s ks) refl (first_is_valid ks (All-tail Leaves k ks all) t) h
+  first_found : (ks : List ℕ) → All Leaves ks → (t : State) → first_done c s ks ≡ Ok (Some t) → IsStep c s t
+  first_found [] all t h = absurd (none-some t (same_Ok _ _ h))
+  first_found (k ∷ ks) all t h =
+      first_or_others k (All-head Leaves k ks all) t (edge_effect c s k (slice_get c.edges k)) (first_done c s ks) refl (first_found ks (All-tail Leaves k ks all) t) h
 
   same_state : (t u : State) → moves t ≡ moves u → t ≡ u
   same_state t u h = cc
@@ -148,16 +152,23 @@ module _ (c : Chart) (w : IsWellFormed c) (s : State) (v : IsValid c s) where
   progress_moves selector (Ok None) t h = absurd (not_fails _ t h)
   progress_moves selector (Err f) t h = absurd (not_fails f t h)
 
-  pub step_is_valid : (t : State) → next c s ≡ moves t → IsValid c t
-  step_is_valid t h =
+  pub step_found : (t : State) → next c s ≡ moves t → IsStep c s t
+  step_found t h =
       let ks = leaving c.edges (point_of s.stack) in
       let goes = progress (selector_of c ks) (first_done c s ks) in
       elim (cases_Bool (is_halted c s.stack)) [
         | inl e ↦ absurd (not_halts t (sym (cond-true (is_halted c s.stack) halts goes e) ∙ h))
         | inr e ↦
-            first_is_valid ks (numbers_found c.edges (λ (e : Edge). nat_eq e.from (point_of s.stack)) 0) t
+            first_found ks (numbers_found c.edges (λ (e : Edge). nat_eq e.from (point_of s.stack)) 0) t
             (progress_moves (selector_of c ks) (first_done c s ks) t (sym (cond-false (is_halted c s.stack) halts goes e) ∙ h))
       ]
+
+pub step_is_valid : (c : Chart) → IsWellFormed c → (s : State) → IsValid c s → (t : State) → next c s ≡ moves t → IsValid c t
+step_is_valid c w s v t h =
+    let x = step_found c s t h in
+    let r = standing_routine c s.stack v.stack in
+    subst (IsValid c) (sym x.leads)
+    (edge_leads_on c w s v r.0 (latest_found c s.stack v.stack r.0 r.1) x.number x.edge x.known x.leaves (ap (routine_at c.points) x.leaves ∙ r.1) x.effect x.done)
 
 -- ---- runs
 
@@ -168,7 +179,7 @@ start_is_valid c items w input = record {
   items = input;
 }
 
-moved_is : (p : Progress) (t : State) → moved p ≡ Some t → p ≡ moves t
+pub moved_is : (p : Progress) (t : State) → moved p ≡ Some t → p ≡ moves t
 moved_is (moves s) t h = ap moves (same_Some s t h)
 moved_is halts t h = absurd (none-some t h)
 moved_is (fails f) t h = absurd (none-some t h)

@@ -9,6 +9,7 @@ pub mod Fits
 pub mod Flows
 pub mod Input
 pub mod Leading
+pub mod Matching
 pub mod Output
 pub mod Runs
 pub mod Sites

@@ -1,5 +1,5 @@
 //! Laws of the definitions. Each is the contract of a function without a body.
-ghost use Rattle.std.specs.Prelude.{◌≡◌, ℕ, ◌≤◌, ◌↔◌, true, false, List, length, ℤ, Some, None, Ok};
+ghost use Rattle.std.specs.Prelude.{◌≡◌, ℕ, ◌<◌, ◌≤◌, ◌↔◌, true, false, List, length, ℤ, Some, None, Ok};
 ghost use Rattle.pas_program.specs.declared.expr.Access.{Access};
 ghost use Rattle.pas_program.specs.declared.expr.Expr.{Expr};
 ghost use Rattle.pas_program.specs.Each.{each_access, each_expr};
@@ -12,11 +12,13 @@ ghost use Rattle.control_points.specs.declared.item.Item.{Item};
 ghost use Rattle.control_points.specs.Actions.{view};
 ghost use Rattle.control_points.specs.Chart.{Chart, leaving};
 ghost use Rattle.control_points.specs.Evaluation.{Spot, spot, value};
+ghost use Rattle.control_points.specs.Finding.{frame_at};
 ghost use Rattle.control_points.specs.Fits.{routine_at};
 ghost use Rattle.control_points.specs.Flows.{chart_of};
 ghost use Rattle.control_points.specs.Leading.{EntriesFit, EdgesLead, EdgesPair, IsAtEnd, IsCase};
+ghost use Rattle.control_points.specs.Matching.{IsMadeAt, IsStep};
 ghost use Rattle.control_points.specs.Runs.{IsInput, IsOnTheWay, at, start};
-ghost use Rattle.control_points.specs.States.{State};
+ghost use Rattle.control_points.specs.States.{Frame, State};
 ghost use Rattle.control_points.specs.Steps.{moves, halts, is_halted, first_done, next, point_of};
 ghost use Rattle.control_points.specs.ValidStates.{Denotes, IsValid, type_of_variable};
 ghost use Rattle.control_points.specs.WellFormed.{IsWellFormed};
@@ -34,6 +36,16 @@ pub fn flows_are_well_formed()
 /// A run begins in a valid state.
 pub fn start_is_valid()
     ensures { (c : Chart) (items : List Item) → IsWellFormed c → IsInput items → IsValid c (start c items) }
+{}
+
+/// Each step does the action of an edge that leaves the point of its state, and leads to the edge's target.
+pub fn each_step_follows_an_edge()
+    ensures { (c : Chart) (s t : State) → next c s ≡ moves t → IsStep c s t }
+{}
+
+/// Each activation but the first was made by a step of the run, and until it ends it and those below it stay as that step left them.
+pub fn each_activation_was_made()
+    ensures { (c : Chart) (items : List Item) (i : ℕ) (s : State) → at c items i ≡ Some s → (d : ℕ) (f : Frame) → 0 < d → frame_at s.stack d ≡ Some f → (j : ℕ) × IsMadeAt c items i d j f }
 {}
 
 /// A step from a valid state leads to a valid state.
