@@ -1,5 +1,5 @@
 -- Each activation of a run but the first was made by a call of the run, and those below it wait until it ends.
-use Rattle.std.proofs.Common.{◌≡◌, ℕ, zero, suc, ◌<◌, ◌≤◌, ◌⊎◌, Bool, true, false, cond, List, [], ◌∷◌, length, refl, sym, ap, subst, ◌∙◌, inl, inr, Option, Some, None, nat_eq, eqb-true, eq-eqb, ne_eqb, le_refl, arith}
+use Rattle.std.proofs.Common.{◌≡◌, ℕ, zero, suc, ◌<◌, ◌≤◌, ◌⊎◌, cond, List, [], ◌∷◌, length, refl, sym, ap, subst, ◌∙◌, inl, inr, Option, Some, None, nat_eq, eqb-true, ne_eqb, le_refl, arith}
 use Rattle.std.proofs.lemmas.Bool.{cases_Bool, cond-true, cond-false}
 use Rattle.std.proofs.lemmas.Option.{none-some, same_Some}
 use Rattle.control_points.specs.declared.item.Item.{Item}
@@ -11,7 +11,7 @@ use Rattle.control_points.specs.Runs.{start, at, step_from}
 use Rattle.control_points.specs.States.{Frame, Activation, Stack, State}
 use Rattle.control_points.specs.Steps.{down_to, next, onward_stack}
 use Rattle.control_points.proofs.ValidBasics.{found_once}
-use Rattle.control_points.proofs.ValidStacks.{frame_below, frame_kept, frame_of_latest}
+use Rattle.control_points.proofs.ValidStacks.{frame_below, frame_kept}
 use Rattle.control_points.proofs.ValidSteps.{moved_is, step_found}
 
 -- ---- what stands in a stack stood in the one before a step, or is the new activation

@@ -1,5 +1,5 @@
 -- What a step follows, and which call made an activation of a run.
-use Rattle.std.specs.Prelude.{◌≡◌, ℕ, suc, ◌<◌, ◌≤◌, List, [], ◌∷◌, length, nat_eq, Option, Some, Ok, slice_get, if◌then◌else◌}
+use Rattle.std.specs.Prelude.{◌≡◌, ℕ, ◌<◌, ◌≤◌, List, [], ◌∷◌, length, nat_eq, Some, Ok, slice_get, if◌then◌else◌}
 use Rattle.control_points.specs.declared.edge.Edge.{Edge}
 use Rattle.control_points.specs.declared.item.Item.{Item}
 use Rattle.control_points.specs.Actions.{Effect, effect_of}
