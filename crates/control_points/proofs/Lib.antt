@@ -6,7 +6,9 @@ pub mod ValidCalls
 pub mod ValidChoices
 pub mod ValidEffects
 pub mod ValidEntries
+pub mod ValidErrors
 pub mod ValidFlows
+pub mod ValidForeseen
 pub mod ValidHalts
 pub mod ValidNumbers
 pub mod ValidPlaces

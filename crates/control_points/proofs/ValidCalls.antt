@@ -69,16 +69,16 @@ among_others f u formals apart h =
 
 -- ---- actuals, by what they are
 
-abbrev typed_step : Tables → Actual-F Actual ExprForm Access Expr → Passed
+abbrev pub typed_step : Tables → Actual-F Actual ExprForm Access Expr → Passed
 typed_step t d = actual_type_step (map-Actual Actual ExprForm Access Expr Passed Hosted Reached Hosted (passed t) (hosted_form t) (reached t) (hosted t) d)
 
-abbrev ruled_step : Rule → Actual-F Actual ExprForm Access Expr → Bool
+abbrev pub ruled_step : Rule → Actual-F Actual ExprForm Access Expr → Bool
 ruled_step q d = Each.actual_step (map-Actual Actual ExprForm Access Expr Bool Bool Bool Bool (each_actual q) (each_form q) (each_access q) (each_expr q) d)
 
-passed_is : (t : Tables) (a : Actual) → passed t a ≡ typed_step t (out-Actual a)
+pub passed_is : (t : Tables) (a : Actual) → passed t a ≡ typed_step t (out-Actual a)
 passed_is t a = fold_out-Actual Passed Hosted Reached Hosted actual_type_step (form_type_step t) (access_type_step t) expr_type_step a
 
-each_actual_is : (q : Rule) (a : Actual) → each_actual q a ≡ ruled_step q (out-Actual a)
+pub each_actual_is : (q : Rule) (a : Actual) → each_actual q a ≡ ruled_step q (out-Actual a)
 each_actual_is q a = fold_out-Actual Bool Bool Bool Bool Each.actual_step (Each.form_step q) (Each.access_step q) Each.expr_step a
 
 -- ---- passing: what the actuals give to formals that are variables of the new activation

@@ -171,7 +171,7 @@ pub each_access_is : (q : Rule) (a : Access) → each_access q a ≡ (q.variable
 each_access_is q a = fold_out-Access Bool Bool Bool Bool Each.actual_step (Each.form_step q) (Each.access_step q) Each.expr_step a
 
 -- the types of an access fit: it has a variable, and subscripts that lead somewhere
-from_variable : (t : Tables) (subscripts : List Hosted) (o : Option VarDef) → (access_from t subscripts o).fits ≡ true → (x : VarDef) × (o ≡ Some x) × ((subscripted t x.of_type subscripts).fits ≡ true)
+pub from_variable : (t : Tables) (subscripts : List Hosted) (o : Option VarDef) → (access_from t subscripts o).fits ≡ true → (x : VarDef) × (o ≡ Some x) × ((subscripted t x.of_type subscripts).fits ≡ true)
 from_variable t subscripts (Some x) h = (x, refl, h)
 from_variable t subscripts None h = absurd (true≢false (sym h))
 

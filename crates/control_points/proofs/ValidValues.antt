@@ -64,16 +64,16 @@ placed_ok at (Err k) z h = absurd (no_error _ z h)
 
 -- ---- one level
 
-hosted_form_is : (t : Tables) (d : ExprForm-F Actual ExprForm Access Expr) → hosted_form t (roll-ExprForm d) ≡ form_type_step t (map-ExprForm Actual ExprForm Access Expr Passed Hosted Reached Hosted (passed t) (hosted_form t) (reached t) (hosted t) d)
+pub hosted_form_is : (t : Tables) (d : ExprForm-F Actual ExprForm Access Expr) → hosted_form t (roll-ExprForm d) ≡ form_type_step t (map-ExprForm Actual ExprForm Access Expr Passed Hosted Reached Hosted (passed t) (hosted_form t) (reached t) (hosted t) d)
 hosted_form_is t d = fold-roll-ExprForm Passed Hosted Reached Hosted actual_type_step (form_type_step t) (access_type_step t) expr_type_step d
 
-hosted_is : (t : Tables) (d : Expr-F Actual ExprForm Access Expr) → hosted t (roll-Expr d) ≡ hosted_form t d.form
+pub hosted_is : (t : Tables) (d : Expr-F Actual ExprForm Access Expr) → hosted t (roll-Expr d) ≡ hosted_form t d.form
 hosted_is t d = fold-roll-Expr Passed Hosted Reached Hosted actual_type_step (form_type_step t) (access_type_step t) expr_type_step d
 
-form_value-Call : (v : View) (routine : ℕ) (actuals : List Actual) (slot at : ℕ) → form_value v (roll-ExprForm (ExprForm-F.Call routine actuals slot at)) ≡ used v (record { place = v.place slot; at = at })
+pub form_value-Call : (v : View) (routine : ℕ) (actuals : List Actual) (slot at : ℕ) → form_value v (roll-ExprForm (ExprForm-F.Call routine actuals slot at)) ≡ used v (record { place = v.place slot; at = at })
 form_value-Call v routine actuals slot at = fold-roll-ExprForm (Unit {0}) (Answer ℤ) (Answer Spot) Valued (λ a. tt) (form_step v) (access_step v) expr_step (ExprForm-F.Call routine actuals slot at)
 
-variable_type : (t : Tables) (u : ℕ) (x : VarDef) → t.var_at u ≡ Some x → type_of_var t u ≡ type_of_variable t u
+pub variable_type : (t : Tables) (u : ℕ) (x : VarDef) → t.var_at u ≡ Some x → type_of_var t u ≡ type_of_variable t u
 variable_type t u x h = ap (option_and_then (λ (d : VarDef). t.type_at d.of_type)) h ∙ ap t.type_at (sym (var_type_is t u x h))
 
 module _ (c : Chart) (fits : TablesFit c.tables c.main) (s : State) (v : IsValid c s) (r : ℕ) (here : IsOf s.stack (top_depth s.stack) r) where

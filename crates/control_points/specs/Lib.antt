@@ -7,6 +7,7 @@ pub mod Evaluation
 pub mod Finding
 pub mod Fits
 pub mod Flows
+pub mod Foreseen
 pub mod Input
 pub mod Leading
 pub mod Matching

@@ -7,6 +7,7 @@ ghost use Rattle.pas_program.specs.Scopes.{scope_rule};
 ghost use Rattle.pas_program.specs.Tables.{is_visible};
 ghost use Rattle.pas_program.specs.Typed.{hosted, reached};
 ghost use Rattle.pas_program.specs.Types.{in_host};
+ghost use Rattle.control_points.specs.declared.fault.Fault.{Fault};
 ghost use Rattle.control_points.specs.declared.flow.Flow.{Flow};
 ghost use Rattle.control_points.specs.declared.item.Item.{Item};
 ghost use Rattle.control_points.specs.Actions.{view};
@@ -15,11 +16,12 @@ ghost use Rattle.control_points.specs.Evaluation.{Spot, spot, value};
 ghost use Rattle.control_points.specs.Finding.{frame_at};
 ghost use Rattle.control_points.specs.Fits.{routine_at};
 ghost use Rattle.control_points.specs.Flows.{chart_of};
+ghost use Rattle.control_points.specs.Foreseen.{IsForeseen};
 ghost use Rattle.control_points.specs.Leading.{EntriesFit, EdgesLead, EdgesPair, IsAtEnd, IsCase};
 ghost use Rattle.control_points.specs.Matching.{IsMadeAt, IsStep};
 ghost use Rattle.control_points.specs.Runs.{IsInput, IsOnTheWay, at, start};
 ghost use Rattle.control_points.specs.States.{Frame, State};
-ghost use Rattle.control_points.specs.Steps.{moves, halts, is_halted, first_done, next, point_of};
+ghost use Rattle.control_points.specs.Steps.{moves, halts, fails, is_halted, first_done, next, point_of};
 ghost use Rattle.control_points.specs.ValidStates.{Denotes, IsValid, type_of_variable};
 ghost use Rattle.control_points.specs.WellFormed.{IsWellFormed};
 
@@ -83,4 +85,10 @@ pub fn spots_exist()
 /// In a valid state the value of an expression is a number of its host: an integer of the language, or 0 or 1 for a Boolean.
 pub fn values_lie_in_their_hosts()
     ensures { (c : Chart) (s : State) (r : ℕ) (e : Expr) (z : ℤ) → IsWellFormed c → IsValid c s → routine_at c.points (point_of s.stack) ≡ Some r → each_expr (scope_rule c.tables r) e ≡ true → (hosted c.tables e).fits ≡ true → value (view c s) e ≡ Ok z → in_host (hosted c.tables e).boolean z ≡ true }
+{}
+
+/// In a valid state an error of a step is one that the action of an edge may be that leaves the point, or one for which no check stands: an
+/// undefined slot, or at the end of a turn of a `for` an undefined control variable or bound.
+pub fn each_error_is_foreseen()
+    ensures { (c : Chart) (s : State) (f : Fault) → IsWellFormed c → EdgesPair c.main c.points c.edges → IsValid c s → next c s ≡ fails f → IsForeseen c s f }
 {}
