@@ -1,6 +1,6 @@
 -- In a valid state an error of an expression is one of those that the expression may be, or it is that a slot is undefined.
-use Rattle.std.proofs.Common.{◌≡◌, ℕ, zero, suc, ◌<◌, ◌⊎◌, Bool, true, false, cond, not, ◌&&◌, List, [], ◌∷◌, ◌++◌, ℤ, pos, neg_ℤ, ◌+ℤ◌, ◌-ℤ◌, ◌*ℤ◌, int_le, int_lt, int_eq, map, Contains, refl, sym, ap, subst, ◌∙◌, inl, inr, Result, Ok, Err, Option, Some, None, nat_eq, arith}
-use Rattle.std.proofs.lemmas.Bool.{and_parts, and_from, cases_Bool, cond-true, cond-false, true≢false, not_from_false}
+use Rattle.std.proofs.Common.{◌≡◌, ℕ, ◌⊎◌, Bool, true, false, not, ◌&&◌, List, [], ◌∷◌, ◌++◌, ℤ, pos, neg_ℤ, ◌+ℤ◌, ◌-ℤ◌, ◌*ℤ◌, int_le, int_lt, int_eq, map, Contains, refl, sym, ap, subst, ◌∙◌, inl, inr, Result, Ok, Err, Option, Some, None, arith}
+use Rattle.std.proofs.lemmas.Bool.{and_parts, cases_Bool, cond-true, cond-false, true≢false}
 use Rattle.std.proofs.lemmas.Bool.Decides.{Decides-int_eq}
 use Rattle.std.proofs.lemmas.List.Elements.{Contains-append_left, Contains-append_right}
 use Rattle.std.specs.Bool.{beq}
@@ -16,7 +16,7 @@ use Rattle.px_base.specs.declared.operator.UnOp.TheVariants as unary
 use Rattle.pas_program.specs.declared.expr.Access.{Access}
 use Rattle.pas_program.specs.declared.expr.Actual.{Actual}
 use Rattle.pas_program.specs.declared.expr.Actual.TheFolds.{fold-roll-Access, fold-roll-Expr, fold-roll-ExprForm, fold_out-Access, fold_out-Expr, ind-Access, ind-Expr, map-Access, map-Expr, map-ExprForm}
-use Rattle.pas_program.specs.declared.expr.Actual.TheOpen.{Access-F, Actual-F, ExprForm-F, Expr-F}
+use Rattle.pas_program.specs.declared.expr.Actual.TheOpen.{Access-F, ExprForm-F, Expr-F}
 use Rattle.pas_program.specs.declared.expr.Actual.TheViews.{roll-Access, roll-Expr, roll-ExprForm, out-Access, out-Expr}
 use Rattle.pas_program.specs.declared.expr.Expr.{Expr}
 use Rattle.pas_program.specs.declared.expr.ExprForm.{ExprForm}
@@ -25,7 +25,7 @@ use Rattle.pas_program.specs.declared.type_def.TypeDef.TheVariants.{Scalar, Arra
 use Rattle.pas_program.specs.Each.{all_true, each_access, each_expr, each_form}
 use Rattle.pas_program.specs.Scopes.{scope_rule}
 use Rattle.pas_program.specs.Tables.{Tables, is_visible}
-use Rattle.pas_program.specs.Typed.{Hosted, Reached, Passed, hosted, hosted_form, reached, passed, access_from, subscripted, element_of, unary_takes, binary_takes, actual_type_step, form_type_step, access_type_step, expr_type_step}
+use Rattle.pas_program.specs.Typed.{Hosted, Reached, Passed, hosted, hosted_form, reached, passed, access_from, subscripted, element_of, unary_takes, actual_type_step, form_type_step, access_type_step, expr_type_step}
 use Rattle.pas_program.specs.Types.{in_host, has_host, maxint}
 use Rattle.pas_program.proofs.Weaker.{With, to_access, to_expr, to_form}
 use Rattle.control_points.specs.declared.fault.Fault.{Fault}
@@ -254,8 +254,8 @@ module _ (c : Chart) (fits : TablesFit c.tables c.main) (s : State) (v : IsValid
       → (element_of c.tables (hosted c.tables (y.0)) (λ n. subscripted c.tables n (map (hosted c.tables) (exprs ys))) o).fits ≡ true
       → (f : Fault)
       → then_with (value (view c s) (y.0)) (λ z.
-        then_with (checked (is_value_of (c.tables.type_at (index_type o)) z) kinds.IndexOutOfRange (valued (view c s) (y.0)).first z) (λ z.
-        then_with (subscript_values c.tables (element_type o) (map (valued (view c s)) (exprs ys))) (λ zs. Ok (z ∷ zs)))) ≡ Err f
+      then_with (checked (is_value_of (c.tables.type_at (index_type o)) z) kinds.IndexOutOfRange (valued (view c s) (y.0)).first z) (λ z.
+      then_with (subscript_values c.tables (element_type o) (map (valued (view c s)) (exprs ys))) (λ zs. Ok (z ∷ zs)))) ≡ Err f
       → Seen ((expr_checks c.tables (y.0) ++ one_if (is_narrow (c.tables.type_at (index_type o))) kinds.IndexOutOfRange (checked_expr c.tables (y.0)).first) ++ subscripts_checks c.tables (element_type o) (map (checked_expr c.tables) (exprs ys))) (expr_slots (y.0) ++ joined (map expr_slots (exprs ys))) f
   subscript_error y ys None scope rest types f h = absurd (true≢false (sym types))
   subscript_error y ys (Some (Scalar boolean lo hi)) scope rest types f h = absurd (true≢false (sym types))

@@ -1,9 +1,8 @@
 -- In a valid state an error of a step is one that the action of an edge may be that leaves the point, or one without a check.
-use Rattle.std.proofs.Common.{◌≡◌, ℕ, zero, suc, ◌<◌, ◌⊎◌, Bool, true, false, cond, ◌&&◌, List, [], ◌∷◌, ◌++◌, ℤ, pos, neg_ℤ, int_le, int_eq, T, All, Contains, map, length, refl, sym, ap, subst, ◌∙◌, inl, inr, Ok, Err, Option, Some, None, option_map, slice_get, nat_eq, eqb-true, arith, zero-add}
+use Rattle.std.proofs.Common.{◌≡◌, ℕ, ◌<◌, ◌⊎◌, Bool, true, false, cond, ◌&&◌, List, [], ◌∷◌, ◌++◌, ℤ, int_eq, T, All, Contains, map, length, refl, sym, ap, subst, ◌∙◌, inl, inr, Ok, Err, Option, Some, None, option_map, slice_get, nat_eq, eqb-true, arith, zero-add}
 use Rattle.std.proofs.lemmas.Bool.{and_parts, and_from, cases_Bool, cond-true, cond-false, true≢false}
 use Rattle.std.proofs.lemmas.List.Elements.{All-head, All-tail, Contains-append_left, Contains-append_right}
 use Rattle.std.proofs.lemmas.Option.{none-some, same_Some}
-use Rattle.std.specs.Bool.{beq}
 use Rattle.arithmetic.specs.Numbers.{truth, IsNumber}
 use Rattle.px_base.specs.declared.kind.Kind.TheVariants as kinds
 use Rattle.pas_program.specs.declared.expr.Access.{Access}
@@ -21,8 +20,8 @@ use Rattle.pas_program.specs.declared.variable.VarDef.{VarDef}
 use Rattle.pas_program.specs.declared.variable.VarKind.TheVariants as kind
 use Rattle.pas_program.specs.Each.{all_true, true_if_some, each_access, each_actual, each_expr, each_item, each_written}
 use Rattle.pas_program.specs.Scopes.{scope_rule}
-use Rattle.pas_program.specs.Tables.{Tables, Head, holds_of, is_kind, is_own, is_visible}
-use Rattle.pas_program.specs.Typed.{Hosted, Reached, hosted, reached, passed, subscripted, element_of, access_from, is_passed_to, are_passed_to, is_of_host, is_target, copy_fits, written_fits, item_fits, loop_fits, type_of_var}
+use Rattle.pas_program.specs.Tables.{Tables, holds_of, is_kind, is_own, is_visible}
+use Rattle.pas_program.specs.Typed.{Reached, hosted, reached, passed, subscripted, element_of, access_from, is_passed_to, are_passed_to, is_of_host, is_target, copy_fits, written_fits, item_fits, loop_fits, type_of_var}
 use Rattle.pas_program.specs.Types.{in_host, has_host}
 use Rattle.control_points.specs.declared.edge.Act.{Act}
 use Rattle.control_points.specs.declared.edge.Act.TheVariants as act
@@ -34,28 +33,27 @@ use Rattle.control_points.specs.Actions as Actions
 use Rattle.control_points.specs.Actions.{Effect, Outcome, Passing, top_depth, top_call, was_made_by, slot_at, result_of, result_value, fits_type, view, does, assign, copy, pass_to, pass, call, give_back, return_from, test, arm, is_one_of, in_order, comes_before, range_of, enter, bypass, next_turn, finish, with_taken, read, written_value, write_in, write, effect_of}
 use Rattle.control_points.specs.Acts.{each_act, act_types_fit}
 use Rattle.control_points.specs.Chart.{Chart, leaving, place_of_point}
-use Rattle.control_points.specs.Checking.{Faults, one, one_if, is_narrow, expr_checks, access_checks, assigned_checks, actual_checks, passing_checks, formals_of, read_checks, written_checks, width_checks, item_checks, selector_checks, bounds_checks}
-use Rattle.control_points.specs.Evaluation.{Answer, View, Spot, then_with, checked, defined, is_value_of, element_type, var_type, part_type, access_type, value, spot, assigned}
+use Rattle.control_points.specs.Checking.{Faults, one, one_if, is_narrow, expr_checks, access_checks, assigned_checks, actual_checks, passing_checks, formals_of, read_checks, written_checks, width_checks, item_checks, bounds_checks}
+use Rattle.control_points.specs.Evaluation.{Answer, View, Spot, checked, defined, is_value_of, element_type, var_type, part_type, access_type, value, spot, assigned}
 use Rattle.control_points.specs.Fits.{routine_at}
 use Rattle.control_points.specs.Foreseen.{IsForeseen, act_checks, unchecked, returned_checks, expr_slots, access_slots, actual_slots, actuals_slots, written_slots, width_slots}
 use Rattle.control_points.specs.Input.{Taken, next_number}
-use Rattle.control_points.specs.Leading.{EdgesPair, IsCase, is_arm}
+use Rattle.control_points.specs.Leading.{EdgesPair, is_arm}
 use Rattle.control_points.specs.Output.{Written, is_width}
 use Rattle.control_points.specs.Runs.{IsInput, IsInputItem}
 use Rattle.control_points.specs.States.{State}
 use Rattle.control_points.specs.Steps.{moves, halts, fails, point_of, is_halted, arm_place, edge_effect, or_else, selector_place, selector_of, first_done, progress, next}
 use Rattle.control_points.specs.Storage.{whole}
-use Rattle.control_points.specs.ValidStates.{IsOf, IsValid, type_of_variable}
+use Rattle.control_points.specs.ValidStates.{IsOf, IsValid}
 use Rattle.control_points.specs.WellFormed.{IsWellFormed}
-use Rattle.control_points.proofs.ValidBasics.{no_error, same_Ok, then_ok, holds_found}
+use Rattle.control_points.proofs.ValidBasics.{same_Ok, then_ok, holds_found}
 use Rattle.control_points.proofs.ValidCalls.{CallFits, call_is_fit, each_actual_is, passed_is, ruled_step, typed_step}
 use Rattle.control_points.proofs.ValidChoices.{no_action_is_case}
-use Rattle.control_points.proofs.ValidErrors.{Seen, same_Err, no_value, then_error, checked_error, defined_error, listed_one, listed_if, seen_left, seen_right, seen_first, seen_last, narrow_from, expr_error, access_error}
+use Rattle.control_points.proofs.ValidErrors.{Seen, same_Err, no_value, then_error, checked_error, defined_error, listed_one, listed_if, seen_left, seen_right, seen_first, narrow_from, expr_error, access_error}
 use Rattle.control_points.proofs.ValidPlaces.{from_variable, reached_is, spot_is, var_type_is}
 use Rattle.control_points.proofs.ValidStacks.{latest_found, standing_routine}
 use Rattle.control_points.proofs.ValidSteps.{IsNumbered, numbers_found}
 use Rattle.control_points.proofs.ValidValues.{expr_in_host, variable_type}
-use Rattle.control_points.proofs.Values.{valued}
 
 -- ---- types
 
@@ -422,9 +420,9 @@ module _ (c : Chart) (w : IsWellFormed c) (s : State) (v : IsValid c s) (r : ℕ
         known = known;
         leaves = from;
         listed =
-          joined_seen (act_checks c place (x.item).act) (unchecked c place (x.item).act) f
-          (act_seen (x.item).act (w.scopes k r x.item known (ap (routine_at c.points) from ∙ stands)) (w.types k x.item known) k place f
-          (ap (edge_effect c s k) (sym known) ∙ is ∙ ap Err (same_Err {A = Option State} g f h)));
+            joined_seen (act_checks c place (x.item).act) (unchecked c place (x.item).act) f
+            (act_seen (x.item).act (w.scopes k r x.item known (ap (routine_at c.points) from ∙ stands)) (w.types k x.item known) k place f
+            (ap (edge_effect c s k) (sym known) ∙ is ∙ ap Err (same_Err {A = Option State} g f h)));
       }
 
   pub first_error : (stands : routine_at c.points (point_of s.stack) ≡ Some r) (ks : List ℕ) → All Leaves ks → (f : Fault) → first_done c s ks ≡ Err f → IsForeseen c s f
@@ -452,8 +450,8 @@ module _ (c : Chart) (s : State) where
         known = known;
         leaves = from;
         listed =
-          Contains-append_left (act_checks c place (x.item).act) (unchecked c place (x.item).act) f
-          (arm_listed c place (x.item).act f (arms k x.item known from) (ap (λ o. record { kind = kinds.NoCaseLabel; at = selector_place o }) (sym known) ∙ h));
+            Contains-append_left (act_checks c place (x.item).act) (unchecked c place (x.item).act) f
+            (arm_listed c place (x.item).act f (arms k x.item known from) (ap (λ o. record { kind = kinds.NoCaseLabel; at = selector_place o }) (sym known) ∙ h));
       }
 
   same_fault : (f g : Fault) → fails f ≡ fails g → f ≡ g

@@ -8,10 +8,8 @@ use Rattle.pas_program.specs.declared.expr.Actual.TheFolds.{fold-Access, fold-Ex
 use Rattle.pas_program.specs.declared.expr.Actual.TheViews.{out-Actual}
 use Rattle.pas_program.specs.declared.expr.Expr.{Expr}
 use Rattle.pas_program.specs.declared.expr.ExprForm.{ExprForm}
-use Rattle.pas_program.specs.declared.statement.WriteItem.{WriteItem}
 use Rattle.pas_program.specs.declared.statement.WriteValue.{WriteValue}
 use Rattle.pas_program.specs.declared.statement.WriteValue.TheVariants as written
-use Rattle.pas_program.specs.Tables.{Tables}
 use Rattle.control_points.specs.declared.edge.Act.{Act}
 use Rattle.control_points.specs.declared.edge.Act.TheVariants as act
 use Rattle.control_points.specs.declared.edge.Edge.{Edge}
