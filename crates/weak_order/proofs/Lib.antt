@@ -3,4 +3,5 @@ pub mod Depth
 pub mod Enough
 pub mod Lists
 pub mod One
+pub mod Rests
 pub mod Weak

@@ -3,4 +3,5 @@ pub mod Check
 pub mod Edges
 pub mod Order
 pub mod Parts
+pub mod Sorting
 pub mod Walk
