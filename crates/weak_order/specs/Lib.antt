@@ -2,7 +2,10 @@ pub mod Adjacency
 pub mod Check
 pub mod Edges
 pub mod Found
+pub mod Listing
 pub mod Order
 pub mod Parts
+pub mod Queue
+pub mod Rank
 pub mod Sorting
 pub mod Walk

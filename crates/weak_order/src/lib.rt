@@ -8,6 +8,7 @@ mod laws;
 mod listing;
 mod nesting;
 mod parts;
+mod queue;
 mod readers;
 mod walk;
 
