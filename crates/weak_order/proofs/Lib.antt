@@ -5,4 +5,5 @@ pub mod Lists
 pub mod One
 pub mod Ranks
 pub mod Rests
+pub mod Tally
 pub mod Weak

@@ -1,5 +1,6 @@
 pub mod Adjacency
 pub mod Check
+pub mod Counts
 pub mod Edges
 pub mod Found
 pub mod Listing
@@ -8,4 +9,5 @@ pub mod Parts
 pub mod Queue
 pub mod Rank
 pub mod Sorting
+pub mod Turn
 pub mod Walk

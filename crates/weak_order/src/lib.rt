@@ -3,6 +3,7 @@
 
 mod adjacency;
 mod check;
+mod counts;
 mod edges;
 mod laws;
 mod listing;
