@@ -1,9 +1,14 @@
+pub mod Awaiting
 pub mod Below
 pub mod Depth
-pub mod Enough
+pub mod Laid
 pub mod Lists
+pub mod Marks
 pub mod One
+pub mod Pieces
 pub mod Ranks
 pub mod Rests
+pub mod States
 pub mod Tally
+pub mod Turns
 pub mod Weak

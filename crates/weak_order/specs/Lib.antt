@@ -1,5 +1,4 @@
 pub mod Adjacency
-pub mod Check
 pub mod Counts
 pub mod Edges
 pub mod Found

@@ -2,7 +2,7 @@
 #![tactic(auto)]
 
 mod adjacency;
-mod check;
+mod columns;
 mod counts;
 mod edges;
 mod laws;
