@@ -1,6 +1,12 @@
 pub mod Below
+pub mod Closing
 pub mod Depth
 pub mod Enough
+pub mod Finishing
+pub mod Gathering
 pub mod Lists
 pub mod One
+pub mod Reach
+pub mod Strong
+pub mod Walking
 pub mod Weak
