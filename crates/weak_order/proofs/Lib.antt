@@ -5,6 +5,7 @@ pub mod Enough
 pub mod Finishing
 pub mod Gathering
 pub mod Lists
+pub mod Noting
 pub mod One
 pub mod Reach
 pub mod Strong
