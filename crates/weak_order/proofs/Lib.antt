@@ -9,5 +9,6 @@ pub mod Noting
 pub mod One
 pub mod Reach
 pub mod Strong
+pub mod Turned
 pub mod Walking
 pub mod Weak
