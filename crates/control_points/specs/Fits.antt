@@ -75,11 +75,3 @@ pub record AssertsFit (program : Program) (points : List Point) (asserts : List 
 pub record EdgesListed (points : List Point) (edges : List Edge) (outgoing incoming : List (List ℕ)) : Type 0 where
   pub leaving : (p : ℕ) → p < length points → slice_get outgoing p ≡ Some (leaving edges p)
   pub arriving : (p : ℕ) → p < length points → slice_get incoming p ≡ Some (arriving edges p)
-
-abbrev pub is_return : Act → Bool
-is_return (act.Return call) = true
-is_return _ = false
-
--- every edge that leaves an exit is a return
-pub record ExitsReturn (points : List Point) (edges : List Edge) : Type 0 where
-  pub only : (k : ℕ) (e : Edge) → slice_get edges k ≡ Some e → kind_at points e.from ≡ Some kind.Exit → is_return e.act ≡ true

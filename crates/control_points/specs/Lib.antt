@@ -10,12 +10,14 @@ pub mod Extents
 pub mod Finding
 pub mod Fits
 pub mod Flows
+pub mod Foreseen
 pub mod Input
 pub mod Judging
 pub mod Labelled
 pub mod Leading
 pub mod Listing
 pub mod Marks
+pub mod Matching
 pub mod Output
 pub mod Runs
 pub mod Scenes
@@ -24,4 +26,5 @@ pub mod States
 pub mod Steps
 pub mod Storage
 pub mod ValidStates
+pub mod WellFormed
 pub mod Wired
