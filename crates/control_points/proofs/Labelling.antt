@@ -1,5 +1,5 @@
 -- The labels of one routine more.
-use Rattle.std.proofs.Common.{◌≡◌, ◌⊎◌, inl, inr, ℕ, zero, suc, ◌+◌, ◌-◌, ◌<◌, ◌≤◌, Bool, true, false, cond, List, [], ◌∷◌, ◌++◌, length, refl, sym, ap, subst, ◌∙◌, Option, Some, None, nat_eq, arith}
+use Rattle.std.proofs.Common.{◌≡◌, ◌⊎◌, inl, inr, ℕ, zero, suc, ◌+◌, ◌-◌, ◌<◌, ◌≤◌, Bool, true, false, cond, List, [], ◌∷◌, ◌++◌, length, length-append, refl, sym, ap, subst, ◌∙◌, Option, Some, None, nat_eq, arith}
 use Rattle.std.proofs.lemmas.Bool.{cases_Bool}
 use Rattle.std.proofs.lemmas.Option.{none-some}
 use Rattle.std.specs.HashMap.{get}
@@ -21,6 +21,9 @@ labels_more entries marks tables new t k many made old last r u h =
       | inl g ↦ old r u g
       | inr g ↦ subst (HasLabels entries marks r) g.1 (subst (λ j. HasLabels entries marks j t) (sym (g.0 ∙ many)) last)
     ]
+
+pub many_more : (tables new : List Labels) (t : Labels) (k : ℕ) → length tables ≡ k → new ≡ tables ++ t ∷ [] → length new ≡ k + 1
+many_more tables new t k many made = omega (arith, ap length made, length-append tables (t ∷ []), many)
 
 -- a label that is found is the number of one of the points
 pub label_within : (k : ℕ) (marks : List Mark) (n p : ℕ) → label_in k marks n ≡ Some p → (k ≤ p) × (p < k + length marks)

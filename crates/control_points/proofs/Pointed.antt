@@ -41,9 +41,10 @@ numbers_more n test (y ∷ xs) x =
 module _ (end : End) (edges : List Edge) (k : ℕ) (e : Edge) (within : k < length edges) (is : e ≡ get_or edges k e) where
   more_at : (p : ℕ) → at_end end (take (k + 1) edges) p ≡ at_end end (take k edges) p ++ one (nat_eq (end_of end e) p) k
   more_at p =
+      let same : 0 + length (take k edges) ≡ k = omega (arith, length-take-le k edges (omega arith)) in
       ap (λ xs. at_end end xs p) (take_more edges k e within ∙ ap (λ x. take k edges ++ x ∷ []) (sym is))
       ∙ numbers_more 0 (λ (x : Edge). nat_eq (end_of end x) p) (take k edges) e
-      ∙ ap (λ m. at_end end (take k edges) p ++ one (nat_eq (end_of end e) p) m) (length-take-le k edges (omega arith))
+      ∙ ap (λ m. at_end end (take k edges) p ++ one (nat_eq (end_of end e) p) m) same
 
   pub listed_step : (lists new : List (List ℕ)) (points : ℕ) → length lists ≡ points → end_of end e < points
       → ((p : ℕ) → p < points → slice_get lists p ≡ Some (at_end end (take k edges) p))

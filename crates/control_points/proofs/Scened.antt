@@ -1,5 +1,5 @@
 -- What the second walk knows in its scene.
-use Rattle.std.proofs.Common.{◌≡◌, ℕ, ◌<◌, ◌≤◌, List, ◌++◌, length, ◌^◌, ap, ◌∙◌, arith}
+use Rattle.std.proofs.Common.{◌≡◌, ℕ, ◌+◌, ◌<◌, ◌≤◌, List, ◌++◌, length, ◌^◌, ap, ◌∙◌, arith}
 use Rattle.std.proofs.lemmas.List.{length-map}
 use Rattle.control_points.specs.declared.check.Check.{Check}
 use Rattle.control_points.specs.declared.edge.Edge.{Edge}
@@ -30,3 +30,8 @@ module _ (s : Scene) where
   -- the exit is a number of a point
   pub exit_fits : s.exit < 2 ^ 32
   exit_fits = omega (arith, point_within (points_in s) s.exit s.routine block.exit_own, length-map s.numbering.now.marks (λ (m : Mark). m.point), s.numbering.now.few)
+
+  -- after the checks of the exit
+  pub judged_last : (edges : List Edge) (checks more : List Check) (n : ℕ) (j : Judge) (faults : Faults) → IsGraph s.program.now (points_in s) edges checks n → n ≤ s.exit → j.point ≡ s.exit → more ≡ checks ++ judged j faults → IsGraph s.program.now (points_in s) edges more (s.exit + 1)
+  judged_last edges checks more n j faults old high at is =
+      weaker_in edges more s.exit (s.exit + 1) (drawn_judged s.program.now (points_in s) edges checks more n s.exit faults old high (point_within (points_in s) s.exit s.routine block.exit_own) (is ∙ ap (λ p. checks ++ checks_at p faults) at)) (omega arith)

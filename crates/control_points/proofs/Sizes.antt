@@ -26,7 +26,7 @@ drop_nil (suc n) = refl
 drop_more : (k : ℕ) (zs : List ℕ) (n : ℕ) → drop n (drop k zs) ≡ drop (k + n) zs
 drop_more zero zs n = ap (λ m. drop m zs) (omega arith)
 drop_more (suc k) [] n = drop_nil n ∙ sym (drop_nil (suc k + n))
-drop_more (suc k) (z ∷ zs) n = drop_more k zs n ∙ ap (λ m. drop m (z ∷ zs)) (omega arith)
+drop_more (suc k) (z ∷ zs) n = let e : suc (k + n) ≡ suc k + n = omega arith in drop_more k zs n ∙ ap (λ m. drop m (z ∷ zs)) e
 
 -- the sizes of two things, one after the other
 pub sizes_both : (zs : List ℕ) (k : ℕ) (xs ys : List ℕ) → Begins (xs ++ ys) (drop k zs) → Begins xs (drop k zs) × Begins ys (drop (k + length xs) zs)

@@ -184,7 +184,6 @@ impl<'a> Scene<'a> {
     }
 
     #[cycle(wire)]
-    #[tactic(none)]
     fn sequence(
         &self,
         body: &[Statement],
@@ -213,7 +212,6 @@ impl<'a> Scene<'a> {
 
     /// Gives the order of the statement that follows in the text.
     #[cycle(wire)]
-    #[tactic(none)]
     fn statement(&self, s: &Statement, stand: Stand, graph: &mut Graph) -> Result<usize, AllocError>
         requires numbers { each_statement (numbers_in self.now.program.now) s.now ≡ true }
         requires types { statement_types_fit (tables self.now.program.now) s.now ≡ true }
@@ -363,7 +361,6 @@ impl<'a> Scene<'a> {
     /// What stands behind a statement's own action, which leaves `here`. Gives the order of the statement that follows in
     /// the text.
     #[cycle(wire)]
-    #[tactic(none)]
     fn inner(
         &self,
         s: &Statement,
@@ -413,7 +410,7 @@ impl<'a> Scene<'a> {
                     here: first,
                     next: stand.next,
                 };
-                self.arms(of, arms.as_slice(), here, inside, graph)
+                self.arms(arms.as_slice(), of, here, inside, graph)
             }
             Body::While { body, .. } => {
                 let inside = Stand {
@@ -677,7 +674,6 @@ impl<'a> Scene<'a> {
 
     /// The branches of an `if`.
     #[cycle(wire)]
-    #[tactic(none)]
     fn branches(
         &self,
         yes: &Statement,
@@ -714,11 +710,10 @@ impl<'a> Scene<'a> {
 
     /// The arms of a `case`, whose selector is evaluated at the point `from`.
     #[cycle(wire)]
-    #[tactic(none)]
     fn arms(
         &self,
-        of: &Expr,
         arms: &[Arm],
+        of: &Expr,
         from: u32,
         inside: Stand,
         graph: &mut Graph,
@@ -770,7 +765,6 @@ impl<'a> Scene<'a> {
 
     /// The statements of a `repeat`, and then its condition, which has a point of its own.
     #[cycle(wire)]
-    #[tactic(none)]
     fn repeat(
         &self,
         body: &[Statement],
@@ -806,7 +800,6 @@ impl<'a> Scene<'a> {
 
     /// The statement of a `for` whose bounds are evaluated at the point `here`, and the ways from its end.
     #[cycle(wire)]
-    #[tactic(none)]
     fn for_loop(
         &self,
         turn: Turn,

@@ -1,7 +1,7 @@
 use Rattle.std.specs.List.{slice_set}
 use Rattle.std.proofs.Common.{◌≡◌, [], ◌∷◌, ◌++◌, suc, ◌+◌, ◌-◌, length, length-append, ap, ◌∙◌, sym, arith}
 use Rattle.control_points.specs.Extents.{body_extent, statement_extent}
-use Rattle.control_points.specs.Marks.{body_marks, statement_marks}
+use Rattle.control_points.specs.Marks.{before_mark, body_marks}
 use Rattle.control_points.proofs.Inside.{statement_inside}
 use Rattle.control_points.proofs.Left.{ok_appended3}
 use Rattle.control_points.proofs.Levels.{for_calls, for_marks, marks_is, points_is, sizes_is}
@@ -19,7 +19,7 @@ statement-returns-clause-sizes t c =
     let s = c.args.s.now in
     let r = c.args.routine in
     let grown : length c.body.new.self.marks ≡ length c.args.self.now.marks + suc (length (body_marks r s.body s.at)) =
-    ap length c.in_ok-body.ensures.marks ∙ length-append c.before-2.new.self.marks (body_marks r s.body s.at) ∙ ap (λ n. n + length (body_marks r s.body s.at)) (ap length (c.in_ok-before.ensures.marks ∙ ap (λ ms. ms ++ _ ∷ []) c.in_ok-reserve.ensures.marks) ∙ length-append c.args.self.now.marks _) ∙ omega arith in
+    omega (arith, ap length c.in_ok-body.ensures.marks, length-append c.before-2.new.self.marks (body_marks r s.body s.at), ap length c.in_ok-before.ensures.marks, length-append c.reserve.new.self.marks (before_mark r s.at s.asserts s.label ∷ []), ap length c.in_ok-reserve.ensures.marks) in
     let many : suc (length (body_marks r s.body s.at)) ≡ suc (body_extent s.body).points = sym (ap length (marks_is r s)) ∙ (statement_inside s r).count ∙ points_is s in
     let size : c.len.result - c.len-first.result ≡ suc (body_extent s.body).points = omega (arith, grown, many, c.len.ensures, c.len-first.ensures) in
     let inner = (body_extent s.body).sizes in
