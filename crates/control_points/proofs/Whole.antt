@@ -66,7 +66,8 @@ module _ (program : Program) (marks : Marks) (is : marks ≡ routines_marks 0 pr
   pub points_fit : PointsFit program (points_of marks)
   points_fit = record { routine = λ p q h.
       let m = mapped_found (λ (x : Mark). x.point) marks p q h in
-      subst (λ n. n < length program.routines) (ap (λ (x : Point). x.routine) m.2) (marks_below 0 program.routines outermost p m.0 (ap (λ xs. slice_get xs p) (sym is) ∙ m.1)) }
+      let low : m.0.point.routine < length program.routines = omega (arith, marks_below 0 program.routines outermost p m.0 (ap (λ xs. slice_get xs p) (sym is) ∙ m.1)) in
+      subst (λ n. n < length program.routines) (ap (λ (x : Point). x.routine) m.2) low }
 
   pub asserts_fit : AssertsFit program (points_of marks) (map (λ (m : Mark). m.asserts) marks)
   asserts_fit = record {
