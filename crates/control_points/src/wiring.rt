@@ -397,12 +397,19 @@ impl<'a> Scene<'a> {
                 self.sequence(body.as_slice(), inside, graph)
             }
             Body::If { yes, no, .. } => {
+                let second = first + self.size(order);
                 let inside = Stand {
                     order,
                     here: first,
                     next: stand.next,
                 };
-                self.branches(yes.get(), no, inside, graph)
+                let order = self.statement(yes.get(), inside, graph)?;
+                let inside = Stand {
+                    order,
+                    here: second,
+                    next: stand.next,
+                };
+                self.other(no, inside, graph)
             }
             Body::Case { of, arms } => {
                 let inside = Stand {
@@ -672,39 +679,26 @@ impl<'a> Scene<'a> {
         )
     }
 
-    /// The branches of an `if`.
+    /// The second branch of an `if`, where there is one.
     #[cycle(wire)]
-    fn branches(
+    fn other(
         &self,
-        yes: &Statement,
         no: &Option<Boxed<Statement>>,
-        inside: Stand,
+        stand: Stand,
         graph: &mut Graph,
     ) -> Result<usize, AllocError>
-        requires numbers { each_statement (numbers_in self.now.program.now) yes.now ≡ true }
-        requires types { statement_types_fit (tables self.now.program.now) yes.now ≡ true }
-        requires scopes { each_statement (scope_in self.now.program.now self.now.routine) yes.now ≡ true }
-        requires no_numbers { true_if_some (option_map (each_statement (numbers_in self.now.program.now)) no.now) ≡ true }
-        requires no_types { true_if_some (option_map (statement_types_fit (tables self.now.program.now)) no.now) ≡ true }
-        requires no_scopes { true_if_some (option_map (each_statement (scope_in self.now.program.now self.now.routine)) no.now) ≡ true }
-        requires stands { StandsAt self.now inside (extents.both (extents.statement_extent yes.now) (second_or (extents.extent_of 0) (option_map extents.statement_extent no.now))).points }
-        requires sizes { SizesAt self.now inside.order (extents.both (extents.statement_extent yes.now) (second_or (extents.extent_of 0) (option_map extents.statement_extent no.now))).sizes }
-        requires graph { IsDrawn self.now graph.old inside.here }
-        ensures order { IfOk result (λ k. k ≡ inside.order + length (extents.both (extents.statement_extent yes.now) (second_or (extents.extent_of 0) (option_map extents.statement_extent no.now))).sizes) }
-        ensures graph { OnOk result (IsDrawn self.now graph.new (inside.here + (extents.both (extents.statement_extent yes.now) (second_or (extents.extent_of 0) (option_map extents.statement_extent no.now))).points)) }
+        requires numbers { true_if_some (option_map (each_statement (numbers_in self.now.program.now)) no.now) ≡ true }
+        requires types { true_if_some (option_map (statement_types_fit (tables self.now.program.now)) no.now) ≡ true }
+        requires scopes { true_if_some (option_map (each_statement (scope_in self.now.program.now self.now.routine)) no.now) ≡ true }
+        requires stands { StandsAt self.now stand (second_or (extents.extent_of 0) (option_map extents.statement_extent no.now)).points }
+        requires sizes { SizesAt self.now stand.order (second_or (extents.extent_of 0) (option_map extents.statement_extent no.now)).sizes }
+        requires graph { IsDrawn self.now graph.old stand.here }
+        ensures order { IfOk result (λ k. k ≡ stand.order + length (second_or (extents.extent_of 0) (option_map extents.statement_extent no.now)).sizes) }
+        ensures graph { OnOk result (IsDrawn self.now graph.new (stand.here + (second_or (extents.extent_of 0) (option_map extents.statement_extent no.now)).points)) }
     {
-        let second = inside.here + self.size(inside.order);
-        let order = self.statement(yes, inside, graph)?;
         match no {
-            None => Ok(order),
-            Some(no) => {
-                let stand = Stand {
-                    order,
-                    here: second,
-                    next: inside.next,
-                };
-                self.statement(no.get(), stand, graph)
-            }
+            None => Ok(stand.order),
+            Some(no) => self.statement(no.get(), stand, graph),
         }
     }
 

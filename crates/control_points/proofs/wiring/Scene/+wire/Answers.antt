@@ -152,39 +152,6 @@ arms-returns-clause-graph t c =
     let none = none_left arm_extent c.args.arms.now c.loop-arm.arm-index c.loop-arm-test.false in
     weaker_in c.args.self.now _ _ _ _ c.loop-arm.invariant.drawn (omega (arith, c.loop-arm.invariant.here, ap (λ (x : Extent). x.points) none))
 
-pub branches-size-requires : goal.branches-size-requires
-branches-size-requires t c =
-    let s = c.args.self.now in
-    let zs = s.numbering.now.sizes in
-    let order = c.args.inside.order in
-    let split = sizes_both zs order (statement_extent c.args.yes.now).sizes _ c.requires.sizes in
-    let found = size_of zs order (statement_extent c.args.yes.now) (statement_headed c.args.yes.now) split.0 in
-    found.0
-
-pub branches-overflow_add-second : goal.branches-overflow_add-second
-branches-overflow_add-second t c =
-    let s = c.args.self.now in
-    let zs = s.numbering.now.sizes in
-    let order = c.args.inside.order in
-    let split = sizes_both zs order (statement_extent c.args.yes.now).sizes _ c.requires.sizes in
-    let found = size_of zs order (statement_extent c.args.yes.now) (statement_headed c.args.yes.now) split.0 in
-    omega (arith, found.1, c.size.ensures, c.requires.stands.room, exit_fits s)
-
-pub branches-statement-requires : goal.branches-statement-requires
-branches-statement-requires t c =
-    let s = c.args.self.now in
-    let zs = s.numbering.now.sizes in
-    let order = c.args.inside.order in
-    let split = sizes_both zs order (statement_extent c.args.yes.now).sizes _ c.requires.sizes in
-    let found = size_of zs order (statement_extent c.args.yes.now) (statement_headed c.args.yes.now) split.0 in
-    (search (rules, the_lemmas),
-      (c.requires.numbers,
-      (c.requires.types,
-      (c.requires.scopes,
-      (record { low = c.requires.stands.low; room = omega (arith, c.requires.stands.room); next_low = c.requires.stands.next_low; next_high = c.requires.stands.next_high },
-      (split.0,
-      c.requires.graph))))))
-
 pub statement-act-requires-clause-here : goal.statement-act-requires-clause-here
 statement-act-requires-clause-here t c =
     c.in_ok-here.ensures.here
@@ -278,72 +245,6 @@ inner-returns-in-Begin-clause-graph t c =
     let inner = inner_sizes x d is zs c.args.stand.order c.requires.sizes in
     then_ok c.sequence.result (rw c.as_slice.ensures at c.sequence.ensures.graph) (λ h. weaker_in s _ _ _ _ h (omega (arith, points, calls, c.requires.here)))
 
-pub inner-branches-requires : goal.inner-branches-requires
-inner-branches-requires t c =
-    let s = c.args.self.now in
-    let p = s.program.now in
-    let x = c.args.s.now in
-    let zs = s.numbering.now.sizes in
-    let d = Body-F.If c.in-If.cond c.in-If.yes c.in-If.no in
-    let is = c.in-If.is ∙ sym (view.rolls-If c.in-If.cond c.in-If.yes c.in-If.no) in
-    let points = points_at x d is in
-    let calls = ap length (calls_at x d is) in
-    let action = action_at x d is in
-    let sizes = ap length (sizes_at x d is) in
-    let inner = inner_sizes x d is zs c.args.stand.order c.requires.sizes in
-    let e = if_extent_is c.in-If.cond c.in-If.yes c.in-If.no in
-    let e_points = ap (λ (y : Extent). y.points) e in
-    let e_sizes = ap (λ (y : Extent). length y.sizes) e in
-    let n = rule_at x d is (numbers_in p) c.requires.numbers in
-    let ty = types_at x d is (tables p) c.requires.types in
-    let sc = rule_at x d is (scope_in p s.routine) c.requires.scopes in
-    (search (rules, the_lemmas),
-      (rw c.get.ensures (if_first (numbers_in p) c.in-If.cond c.in-If.yes c.in-If.no n),
-      (rw c.get.ensures (if_first_types (tables p) c.in-If.cond c.in-If.yes c.in-If.no ty),
-      (rw c.get.ensures (if_first (scope_in p s.routine) c.in-If.cond c.in-If.yes c.in-If.no sc),
-      (if_second (numbers_in p) c.in-If.cond c.in-If.yes c.in-If.no n,
-      (if_second_types (tables p) c.in-If.cond c.in-If.yes c.in-If.no ty,
-      (if_second (scope_in p s.routine) c.in-If.cond c.in-If.yes c.in-If.no sc,
-      (rw c.get.ensures (record { low = omega (arith, c.requires.here, c.requires.stands.low); room = omega (arith, points, e_points, calls, c.requires.here, c.requires.stands.room); next_low = c.requires.stands.next_low; next_high = c.requires.stands.next_high }),
-      (rw c.get.ensures (subst (λ (y : Extent). Begins y.sizes (drop (c.args.stand.order + 1) zs)) e inner),
-      weaker_in s _ _ _ _ c.requires.graph (omega (arith, action)))))))))))
-
-pub inner-returns-in-If-clause-order : goal.inner-returns-in-If-clause-order
-inner-returns-in-If-clause-order t c =
-    let s = c.args.self.now in
-    let p = s.program.now in
-    let x = c.args.s.now in
-    let zs = s.numbering.now.sizes in
-    let d = Body-F.If c.in-If.cond c.in-If.yes c.in-If.no in
-    let is = c.in-If.is ∙ sym (view.rolls-If c.in-If.cond c.in-If.yes c.in-If.no) in
-    let points = points_at x d is in
-    let calls = ap length (calls_at x d is) in
-    let action = action_at x d is in
-    let sizes = ap length (sizes_at x d is) in
-    let inner = inner_sizes x d is zs c.args.stand.order c.requires.sizes in
-    let e = if_extent_is c.in-If.cond c.in-If.yes c.in-If.no in
-    let e_points = ap (λ (y : Extent). y.points) e in
-    let e_sizes = ap (λ (y : Extent). length y.sizes) e in
-    then_if c.branches.result (rw c.get.ensures at c.branches.ensures.order) (λ k h. omega (arith, h, sizes, e_sizes))
-
-pub inner-returns-in-If-clause-graph : goal.inner-returns-in-If-clause-graph
-inner-returns-in-If-clause-graph t c =
-    let s = c.args.self.now in
-    let p = s.program.now in
-    let x = c.args.s.now in
-    let zs = s.numbering.now.sizes in
-    let d = Body-F.If c.in-If.cond c.in-If.yes c.in-If.no in
-    let is = c.in-If.is ∙ sym (view.rolls-If c.in-If.cond c.in-If.yes c.in-If.no) in
-    let points = points_at x d is in
-    let calls = ap length (calls_at x d is) in
-    let action = action_at x d is in
-    let sizes = ap length (sizes_at x d is) in
-    let inner = inner_sizes x d is zs c.args.stand.order c.requires.sizes in
-    let e = if_extent_is c.in-If.cond c.in-If.yes c.in-If.no in
-    let e_points = ap (λ (y : Extent). y.points) e in
-    let e_sizes = ap (λ (y : Extent). length y.sizes) e in
-    then_ok c.branches.result (rw c.get.ensures at c.branches.ensures.graph) (λ h. weaker_in s _ _ _ _ h (omega (arith, points, e_points, calls, c.requires.here)))
-
 pub inner-arms-requires : goal.inner-arms-requires
 inner-arms-requires t c =
     let s = c.args.self.now in
@@ -405,60 +306,6 @@ inner-returns-in-Case-clause-graph t c =
     let inner = inner_sizes x d is zs c.args.stand.order c.requires.sizes in
     then_ok c.arms.result (rw c.as_slice-in-Case.ensures at c.arms.ensures.graph) (λ h. weaker_in s _ _ _ _ h (omega (arith, points, calls, c.requires.here)))
 
-pub inner-statement-requires : goal.inner-statement-requires
-inner-statement-requires t c =
-    let s = c.args.self.now in
-    let p = s.program.now in
-    let x = c.args.s.now in
-    let zs = s.numbering.now.sizes in
-    let d = Body-F.While c.in-While.cond c.in-While.body in
-    let is = c.in-While.is ∙ sym (view.rolls-While c.in-While.cond c.in-While.body) in
-    let points = points_at x d is in
-    let calls = ap length (calls_at x d is) in
-    let action = action_at x d is in
-    let sizes = ap length (sizes_at x d is) in
-    let inner = inner_sizes x d is zs c.args.stand.order c.requires.sizes in
-    let q = numbers_in p in
-    let u = scope_in p s.routine in
-    let cond = c.in-While.cond in
-    (search (rules, the_lemmas),
-      (rw c.get-in-While.ensures (and_parts (each_expr q cond) _ (rule_at x d is q c.requires.numbers)).1,
-      (rw c.get-in-While.ensures (and_parts (is_of_host true (hosted (tables p) cond)) _ (types_at x d is (tables p) c.requires.types)).1,
-      (rw c.get-in-While.ensures (and_parts (each_expr u cond) _ (rule_at x d is u c.requires.scopes)).1,
-      (rw c.get-in-While.ensures (record { low = omega (arith, c.requires.here, c.requires.stands.low); room = omega (arith, points, calls, c.requires.here, c.requires.stands.room); next_low = c.requires.stands.low; next_high = omega (arith, points, c.requires.stands.room) }),
-      (rw c.get-in-While.ensures inner,
-      weaker_in s _ _ _ _ c.requires.graph (omega (arith, action))))))))
-
-pub inner-returns-in-While-clause-order : goal.inner-returns-in-While-clause-order
-inner-returns-in-While-clause-order t c =
-    let s = c.args.self.now in
-    let p = s.program.now in
-    let x = c.args.s.now in
-    let zs = s.numbering.now.sizes in
-    let d = Body-F.While c.in-While.cond c.in-While.body in
-    let is = c.in-While.is ∙ sym (view.rolls-While c.in-While.cond c.in-While.body) in
-    let points = points_at x d is in
-    let calls = ap length (calls_at x d is) in
-    let action = action_at x d is in
-    let sizes = ap length (sizes_at x d is) in
-    let inner = inner_sizes x d is zs c.args.stand.order c.requires.sizes in
-    then_if c.statement.result (rw c.get-in-While.ensures at c.statement.ensures.order) (λ k h. omega (arith, h, sizes))
-
-pub inner-returns-in-While-clause-graph : goal.inner-returns-in-While-clause-graph
-inner-returns-in-While-clause-graph t c =
-    let s = c.args.self.now in
-    let p = s.program.now in
-    let x = c.args.s.now in
-    let zs = s.numbering.now.sizes in
-    let d = Body-F.While c.in-While.cond c.in-While.body in
-    let is = c.in-While.is ∙ sym (view.rolls-While c.in-While.cond c.in-While.body) in
-    let points = points_at x d is in
-    let calls = ap length (calls_at x d is) in
-    let action = action_at x d is in
-    let sizes = ap length (sizes_at x d is) in
-    let inner = inner_sizes x d is zs c.args.stand.order c.requires.sizes in
-    then_ok c.statement.result (rw c.get-in-While.ensures at c.statement.ensures.graph) (λ h. weaker_in s _ _ _ _ h (omega (arith, points, calls, c.requires.here)))
-
 pub inner-repeat-requires : goal.inner-repeat-requires
 inner-repeat-requires t c =
     let s = c.args.self.now in
@@ -487,7 +334,7 @@ inner-repeat-requires t c =
       (rw c.as_slice-in-Repeat.ensures ty.0,
       (rw c.as_slice-in-Repeat.ensures (and_parts (nat_lt 0 (length (map (each_statement u) body))) _ sc.0).1,
       (rw c.as_slice-in-Repeat.ensures (record { low = c.requires.stands.low; room = omega (arith, points, c.requires.stands.room); next_low = c.requires.stands.next_low; next_high = c.requires.stands.next_high }),
-      (rw c.as_slice-in-Repeat.ensures (repeat_sizes x body c.in-Repeat.at cond is zs c.args.stand.order c.requires.sizes),
+      (subst (λ b. Begins (repeat_extent b cond).sizes (drop c.args.stand.order zs)) (sym c.as_slice-in-Repeat.ensures) (repeat_sizes x body c.in-Repeat.at cond is zs c.args.stand.order c.requires.sizes),
       weaker_in s _ _ _ _ c.requires.graph (omega (arith, action, calls, c.requires.here)))))))))))
 
 pub inner-returns-in-Repeat-clause-order : goal.inner-returns-in-Repeat-clause-order
@@ -664,26 +511,6 @@ for_loop-returns-clause-graph t c =
 pub for_loop-returns-clause-order : goal.for_loop-returns-clause-order
 for_loop-returns-clause-order t c =
     omega (arith, c.in_ok-order.ensures.order)
-
-pub branches-statement-requires-in-Some : goal.branches-statement-requires-in-Some
-branches-statement-requires-in-Some t c =
-    let s = c.args.self.now in
-    let zs = s.numbering.now.sizes in
-    let order = c.args.inside.order in
-    let split = sizes_both zs order (statement_extent c.args.yes.now).sizes _ c.requires.sizes in
-    let found = size_of zs order (statement_extent c.args.yes.now) (statement_headed c.args.yes.now) split.0 in
-    let e : second_or (extent_of 0) (option_map statement_extent c.args.no.now) ≡ statement_extent c.in-Some.no = ap (λ o. second_or (extent_of 0) (option_map statement_extent o)) c.in-Some.is in
-    let n = ap (λ o. true_if_some (option_map (each_statement (numbers_in s.program.now)) o)) (sym c.in-Some.is) ∙ c.requires.no_numbers in
-    let ty = ap (λ o. true_if_some (option_map (statement_types_fit (tables s.program.now)) o)) (sym c.in-Some.is) ∙ c.requires.no_types in
-    let sc = ap (λ o. true_if_some (option_map (each_statement (scope_in s.program.now s.routine)) o)) (sym c.in-Some.is) ∙ c.requires.no_scopes in
-    let order_is = c.in_ok-order.ensures.order in
-    (search (rules, the_lemmas),
-      (rw c.get.ensures n,
-      (rw c.get.ensures ty,
-      (rw c.get.ensures sc,
-      (rw c.get.ensures (record { low = omega (arith, c.requires.stands.low); room = omega (arith, found.1, c.size.ensures, ap (λ (y : Extent). y.points) e, c.requires.stands.room); next_low = c.requires.stands.next_low; next_high = c.requires.stands.next_high }),
-      (rw c.get.ensures (subst (λ n. Begins (statement_extent c.in-Some.no).sizes (drop n zs)) (sym order_is) (subst (λ (y : Extent). Begins y.sizes (drop (order + length (statement_extent c.args.yes.now).sizes) zs)) e split.1)),
-      weaker_in s _ _ _ _ c.in_ok-order.ensures.graph (omega (arith, found.1, c.size.ensures))))))))
 
 pub repeat-size-requires : goal.repeat-size-requires
 repeat-size-requires t c =
@@ -935,3 +762,225 @@ repeat-returns-clause-graph t c =
     let same : sites_of sites.items ≡ expr_calls cond = c.in_ok-calls_in_expr.ensures ∙ ap (λ xs. sites_of xs ++ expr_calls cond) c.new-sites.ensures.items in
     let many : length sites.items ≡ length (expr_calls cond) = sym (length-map sites.items site_of) ∙ ap length same in
     weaker_in s _ _ _ _ c.in_ok-condition.ensures (omega (arith, found.1, c.size.ensures, many, sites.ok.0, c.len.ensures, ap length c.as_slice.ensures.value, c.in_ok-last.ensures.point))
+
+pub inner-statement-requires-in-While : goal.inner-statement-requires-in-While
+inner-statement-requires-in-While t c =
+    let s = c.args.self.now in
+    let p = s.program.now in
+    let x = c.args.s.now in
+    let zs = s.numbering.now.sizes in
+    let d = Body-F.While c.in-While.cond c.in-While.body in
+    let is = c.in-While.is ∙ sym (view.rolls-While c.in-While.cond c.in-While.body) in
+    let points = points_at x d is in
+    let calls = ap length (calls_at x d is) in
+    let action = action_at x d is in
+    let sizes = ap length (sizes_at x d is) in
+    let inner = inner_sizes x d is zs c.args.stand.order c.requires.sizes in
+    let q = numbers_in p in
+    let u = scope_in p s.routine in
+    let cond = c.in-While.cond in
+    (search (rules, the_lemmas),
+      (rw c.get-in-While.ensures (and_parts (each_expr q cond) _ (rule_at x d is q c.requires.numbers)).1,
+      (rw c.get-in-While.ensures (and_parts (is_of_host true (hosted (tables p) cond)) _ (types_at x d is (tables p) c.requires.types)).1,
+      (rw c.get-in-While.ensures (and_parts (each_expr u cond) _ (rule_at x d is u c.requires.scopes)).1,
+      (rw c.get-in-While.ensures (record { low = omega (arith, c.requires.here, c.requires.stands.low); room = omega (arith, points, calls, c.requires.here, c.requires.stands.room); next_low = c.requires.stands.low; next_high = omega (arith, points, c.requires.stands.room) }),
+      (rw c.get-in-While.ensures inner,
+      weaker_in s _ _ _ _ c.requires.graph (omega (arith, action))))))))
+
+pub inner-returns-in-While-clause-order : goal.inner-returns-in-While-clause-order
+inner-returns-in-While-clause-order t c =
+    let s = c.args.self.now in
+    let p = s.program.now in
+    let x = c.args.s.now in
+    let zs = s.numbering.now.sizes in
+    let d = Body-F.While c.in-While.cond c.in-While.body in
+    let is = c.in-While.is ∙ sym (view.rolls-While c.in-While.cond c.in-While.body) in
+    let points = points_at x d is in
+    let calls = ap length (calls_at x d is) in
+    let action = action_at x d is in
+    let sizes = ap length (sizes_at x d is) in
+    let inner = inner_sizes x d is zs c.args.stand.order c.requires.sizes in
+    then_if c.statement-in-While.result (rw c.get-in-While.ensures at c.statement-in-While.ensures.order) (λ k h. omega (arith, h, sizes))
+
+pub inner-returns-in-While-clause-graph : goal.inner-returns-in-While-clause-graph
+inner-returns-in-While-clause-graph t c =
+    let s = c.args.self.now in
+    let p = s.program.now in
+    let x = c.args.s.now in
+    let zs = s.numbering.now.sizes in
+    let d = Body-F.While c.in-While.cond c.in-While.body in
+    let is = c.in-While.is ∙ sym (view.rolls-While c.in-While.cond c.in-While.body) in
+    let points = points_at x d is in
+    let calls = ap length (calls_at x d is) in
+    let action = action_at x d is in
+    let sizes = ap length (sizes_at x d is) in
+    let inner = inner_sizes x d is zs c.args.stand.order c.requires.sizes in
+    then_ok c.statement-in-While.result (rw c.get-in-While.ensures at c.statement-in-While.ensures.graph) (λ h. weaker_in s _ _ _ _ h (omega (arith, points, calls, c.requires.here)))
+
+pub inner-size-requires : goal.inner-size-requires
+inner-size-requires t c =
+    let s = c.args.self.now in
+    let p = s.program.now in
+    let x = c.args.s.now in
+    let zs = s.numbering.now.sizes in
+    let f = c.in-If in
+    let d = Body-F.If f.cond f.yes f.no in
+    let is = f.is ∙ sym (view.rolls-If f.cond f.yes f.no) in
+    let points = points_at x d is in
+    let calls = ap length (calls_at x d is) in
+    let action = action_at x d is in
+    let sizes = ap length (sizes_at x d is) in
+    let inner = inner_sizes x d is zs c.args.stand.order c.requires.sizes in
+    let e = if_extent_is f.cond f.yes f.no in
+    let more = second_or (extent_of 0) (option_map statement_extent f.no) in
+    let e_points = ap (λ (y : Extent). y.points) e in
+    let e_sizes = ap (λ (y : Extent). length y.sizes) e in
+    let split = sizes_both zs (c.args.stand.order + 1) (statement_extent f.yes).sizes more.sizes (subst (λ (y : Extent). Begins y.sizes (drop (c.args.stand.order + 1) zs)) e inner) in
+    let found = size_of zs (c.args.stand.order + 1) (statement_extent f.yes) (statement_headed f.yes) split.0 in
+    found.0
+
+pub inner-overflow_add-second : goal.inner-overflow_add-second
+inner-overflow_add-second t c =
+    let s = c.args.self.now in
+    let p = s.program.now in
+    let x = c.args.s.now in
+    let zs = s.numbering.now.sizes in
+    let f = c.in-If in
+    let d = Body-F.If f.cond f.yes f.no in
+    let is = f.is ∙ sym (view.rolls-If f.cond f.yes f.no) in
+    let points = points_at x d is in
+    let calls = ap length (calls_at x d is) in
+    let action = action_at x d is in
+    let sizes = ap length (sizes_at x d is) in
+    let inner = inner_sizes x d is zs c.args.stand.order c.requires.sizes in
+    let e = if_extent_is f.cond f.yes f.no in
+    let more = second_or (extent_of 0) (option_map statement_extent f.no) in
+    let e_points = ap (λ (y : Extent). y.points) e in
+    let e_sizes = ap (λ (y : Extent). length y.sizes) e in
+    let split = sizes_both zs (c.args.stand.order + 1) (statement_extent f.yes).sizes more.sizes (subst (λ (y : Extent). Begins y.sizes (drop (c.args.stand.order + 1) zs)) e inner) in
+    let found = size_of zs (c.args.stand.order + 1) (statement_extent f.yes) (statement_headed f.yes) split.0 in
+    omega (arith, found.1, c.size.ensures, points, e_points, calls, c.requires.here, c.requires.stands.room, exit_fits s)
+
+pub inner-statement-requires : goal.inner-statement-requires
+inner-statement-requires t c =
+    let s = c.args.self.now in
+    let p = s.program.now in
+    let x = c.args.s.now in
+    let zs = s.numbering.now.sizes in
+    let f = c.in-If in
+    let d = Body-F.If f.cond f.yes f.no in
+    let is = f.is ∙ sym (view.rolls-If f.cond f.yes f.no) in
+    let points = points_at x d is in
+    let calls = ap length (calls_at x d is) in
+    let action = action_at x d is in
+    let sizes = ap length (sizes_at x d is) in
+    let inner = inner_sizes x d is zs c.args.stand.order c.requires.sizes in
+    let e = if_extent_is f.cond f.yes f.no in
+    let more = second_or (extent_of 0) (option_map statement_extent f.no) in
+    let e_points = ap (λ (y : Extent). y.points) e in
+    let e_sizes = ap (λ (y : Extent). length y.sizes) e in
+    let split = sizes_both zs (c.args.stand.order + 1) (statement_extent f.yes).sizes more.sizes (subst (λ (y : Extent). Begins y.sizes (drop (c.args.stand.order + 1) zs)) e inner) in
+    let found = size_of zs (c.args.stand.order + 1) (statement_extent f.yes) (statement_headed f.yes) split.0 in
+    let n = rule_at x d is (numbers_in p) c.requires.numbers in
+    let ty = types_at x d is (tables p) c.requires.types in
+    let sc = rule_at x d is (scope_in p s.routine) c.requires.scopes in
+    (search (rules, the_lemmas),
+      (rw c.get.ensures (if_first (numbers_in p) f.cond f.yes f.no n),
+      (rw c.get.ensures (if_first_types (tables p) f.cond f.yes f.no ty),
+      (rw c.get.ensures (if_first (scope_in p s.routine) f.cond f.yes f.no sc),
+      (rw c.get.ensures (record { low = omega (arith, c.requires.here, c.requires.stands.low); room = omega (arith, points, e_points, calls, c.requires.here, c.requires.stands.room); next_low = c.requires.stands.next_low; next_high = c.requires.stands.next_high }),
+      (rw c.get.ensures split.0,
+      weaker_in s _ _ _ _ c.requires.graph (omega (arith, action))))))))
+
+pub inner-other-requires : goal.inner-other-requires
+inner-other-requires t c =
+    let s = c.args.self.now in
+    let p = s.program.now in
+    let x = c.args.s.now in
+    let zs = s.numbering.now.sizes in
+    let f = c.in-If in
+    let d = Body-F.If f.cond f.yes f.no in
+    let is = f.is ∙ sym (view.rolls-If f.cond f.yes f.no) in
+    let points = points_at x d is in
+    let calls = ap length (calls_at x d is) in
+    let action = action_at x d is in
+    let sizes = ap length (sizes_at x d is) in
+    let inner = inner_sizes x d is zs c.args.stand.order c.requires.sizes in
+    let e = if_extent_is f.cond f.yes f.no in
+    let more = second_or (extent_of 0) (option_map statement_extent f.no) in
+    let e_points = ap (λ (y : Extent). y.points) e in
+    let e_sizes = ap (λ (y : Extent). length y.sizes) e in
+    let split = sizes_both zs (c.args.stand.order + 1) (statement_extent f.yes).sizes more.sizes (subst (λ (y : Extent). Begins y.sizes (drop (c.args.stand.order + 1) zs)) e inner) in
+    let found = size_of zs (c.args.stand.order + 1) (statement_extent f.yes) (statement_headed f.yes) split.0 in
+    let n = rule_at x d is (numbers_in p) c.requires.numbers in
+    let ty = types_at x d is (tables p) c.requires.types in
+    let sc = rule_at x d is (scope_in p s.routine) c.requires.scopes in
+    let order_is = rw c.get.ensures at c.in_ok-order-in-If.ensures.order in
+    (search (rules, the_lemmas),
+      (if_second (numbers_in p) f.cond f.yes f.no n,
+      (if_second_types (tables p) f.cond f.yes f.no ty,
+      (if_second (scope_in p s.routine) f.cond f.yes f.no sc,
+      (record { low = omega (arith, c.requires.here, c.requires.stands.low); room = omega (arith, found.1, c.size.ensures, points, e_points, calls, c.requires.here, c.requires.stands.room); next_low = c.requires.stands.next_low; next_high = c.requires.stands.next_high },
+      (subst (λ k. Begins more.sizes (drop k zs)) (sym order_is) split.1,
+      weaker_in s _ _ _ _ (rw c.get.ensures at c.in_ok-order-in-If.ensures.graph) (omega (arith, found.1, c.size.ensures))))))))
+
+pub inner-returns-in-If-clause-order : goal.inner-returns-in-If-clause-order
+inner-returns-in-If-clause-order t c =
+    let s = c.args.self.now in
+    let p = s.program.now in
+    let x = c.args.s.now in
+    let zs = s.numbering.now.sizes in
+    let f = c.in-If in
+    let d = Body-F.If f.cond f.yes f.no in
+    let is = f.is ∙ sym (view.rolls-If f.cond f.yes f.no) in
+    let points = points_at x d is in
+    let calls = ap length (calls_at x d is) in
+    let action = action_at x d is in
+    let sizes = ap length (sizes_at x d is) in
+    let inner = inner_sizes x d is zs c.args.stand.order c.requires.sizes in
+    let e = if_extent_is f.cond f.yes f.no in
+    let more = second_or (extent_of 0) (option_map statement_extent f.no) in
+    let e_points = ap (λ (y : Extent). y.points) e in
+    let e_sizes = ap (λ (y : Extent). length y.sizes) e in
+    let split = sizes_both zs (c.args.stand.order + 1) (statement_extent f.yes).sizes more.sizes (subst (λ (y : Extent). Begins y.sizes (drop (c.args.stand.order + 1) zs)) e inner) in
+    let found = size_of zs (c.args.stand.order + 1) (statement_extent f.yes) (statement_headed f.yes) split.0 in
+    let order_is = rw c.get.ensures at c.in_ok-order-in-If.ensures.order in
+    then_if c.other.result c.other.ensures.order (λ k h. omega (arith, h, sizes, e_sizes, order_is, length-append (statement_extent f.yes).sizes more.sizes))
+
+pub inner-returns-in-If-clause-graph : goal.inner-returns-in-If-clause-graph
+inner-returns-in-If-clause-graph t c =
+    let s = c.args.self.now in
+    let p = s.program.now in
+    let x = c.args.s.now in
+    let zs = s.numbering.now.sizes in
+    let f = c.in-If in
+    let d = Body-F.If f.cond f.yes f.no in
+    let is = f.is ∙ sym (view.rolls-If f.cond f.yes f.no) in
+    let points = points_at x d is in
+    let calls = ap length (calls_at x d is) in
+    let action = action_at x d is in
+    let sizes = ap length (sizes_at x d is) in
+    let inner = inner_sizes x d is zs c.args.stand.order c.requires.sizes in
+    let e = if_extent_is f.cond f.yes f.no in
+    let more = second_or (extent_of 0) (option_map statement_extent f.no) in
+    let e_points = ap (λ (y : Extent). y.points) e in
+    let e_sizes = ap (λ (y : Extent). length y.sizes) e in
+    let split = sizes_both zs (c.args.stand.order + 1) (statement_extent f.yes).sizes more.sizes (subst (λ (y : Extent). Begins y.sizes (drop (c.args.stand.order + 1) zs)) e inner) in
+    let found = size_of zs (c.args.stand.order + 1) (statement_extent f.yes) (statement_headed f.yes) split.0 in
+    then_ok c.other.result c.other.ensures.graph (λ h. weaker_in s _ _ _ _ h (omega (arith, found.1, c.size.ensures, points, e_points, calls, c.requires.here)))
+
+pub other-statement-requires : goal.other-statement-requires
+other-statement-requires t c =
+    let s = c.args.self.now in
+    let zs = s.numbering.now.sizes in
+    let e : second_or (extent_of 0) (option_map statement_extent c.args.no.now) ≡ statement_extent c.in-Some.no = ap (λ o. second_or (extent_of 0) (option_map statement_extent o)) c.in-Some.is in
+    let n = ap (λ o. true_if_some (option_map (each_statement (numbers_in s.program.now)) o)) (sym c.in-Some.is) ∙ c.requires.numbers in
+    let ty = ap (λ o. true_if_some (option_map (statement_types_fit (tables s.program.now)) o)) (sym c.in-Some.is) ∙ c.requires.types in
+    let sc = ap (λ o. true_if_some (option_map (each_statement (scope_in s.program.now s.routine)) o)) (sym c.in-Some.is) ∙ c.requires.scopes in
+    (search (rules, the_lemmas),
+      (rw c.get.ensures n,
+      (rw c.get.ensures ty,
+      (rw c.get.ensures sc,
+      (rw c.get.ensures (record { low = c.requires.stands.low; room = omega (arith, ap (λ (y : Extent). y.points) e, c.requires.stands.room); next_low = c.requires.stands.next_low; next_high = c.requires.stands.next_high }),
+      (rw c.get.ensures (subst (λ (y : Extent). Begins y.sizes (drop c.args.stand.order zs)) e c.requires.sizes),
+      c.requires.graph))))))

@@ -15,4 +15,4 @@ pub returns-clause-graph : goal.returns-clause-graph
 returns-clause-graph c =
     let s = c.args.self.now in
     let opened : out-Body c.args.routine.now.body.body ≡ Body-F.Begin c.in-Begin.body c.in-Begin.end = ap out-Body (c.in-Begin.is ∙ sym (view.rolls-Begin c.in-Begin.body c.in-Begin.end)) ∙ out-roll-Body (Body-F.Begin c.in-Begin.body c.in-Begin.end) in
-    judged_last s _ _ _ _ _ _ (rw c.as_slice.ensures at c.in_ok-order-in-Begin.ensures.graph) (omega (arith, ap part_points opened, c.requires.size)) c.judge.ensures.point c.in_ok-outcome-in-Begin.ensures
+    judged_last s _ _ _ _ c.judge.result _ (rw c.as_slice.ensures at c.in_ok-order-in-Begin.ensures.graph) (omega (arith, ap part_points opened, c.requires.size)) c.judge.ensures.point c.in_ok-outcome-in-Begin.ensures
