@@ -924,31 +924,8 @@ inner-other-requires t c =
       (subst (λ k. Begins more.sizes (drop k zs)) (sym order_is) split.1,
       weaker_in s _ _ _ _ (rw c.get.ensures at c.in_ok-order-in-If.ensures.graph) (omega (arith, found.1, c.size.ensures))))))))
 
-pub inner-returns-in-If-clause-order : goal.inner-returns-in-If-clause-order
-inner-returns-in-If-clause-order t c =
-    let s = c.args.self.now in
-    let p = s.program.now in
-    let x = c.args.s.now in
-    let zs = s.numbering.now.sizes in
-    let f = c.in-If in
-    let d = Body-F.If f.cond f.yes f.no in
-    let is = f.is ∙ sym (view.rolls-If f.cond f.yes f.no) in
-    let points = points_at x d is in
-    let calls = ap length (calls_at x d is) in
-    let action = action_at x d is in
-    let sizes = ap length (sizes_at x d is) in
-    let inner = inner_sizes x d is zs c.args.stand.order c.requires.sizes in
-    let e = if_extent_is f.cond f.yes f.no in
-    let more = second_or (extent_of 0) (option_map statement_extent f.no) in
-    let e_points = ap (λ (y : Extent). y.points) e in
-    let e_sizes = ap (λ (y : Extent). length y.sizes) e in
-    let split = sizes_both zs (c.args.stand.order + 1) (statement_extent f.yes).sizes more.sizes (subst (λ (y : Extent). Begins y.sizes (drop (c.args.stand.order + 1) zs)) e inner) in
-    let found = size_of zs (c.args.stand.order + 1) (statement_extent f.yes) (statement_headed f.yes) split.0 in
-    let order_is = rw c.get.ensures at c.in_ok-order-in-If.ensures.order in
-    then_if c.other.result c.other.ensures.order (λ k h. omega (arith, h, sizes, e_sizes, order_is, length-append (statement_extent f.yes).sizes more.sizes))
-
-pub inner-returns-in-If-clause-graph : goal.inner-returns-in-If-clause-graph
-inner-returns-in-If-clause-graph t c =
+pub inner-returns-in_ok-order-in-If-clause-graph : goal.inner-returns-in_ok-order-in-If-clause-graph
+inner-returns-in_ok-order-in-If-clause-graph t c =
     let s = c.args.self.now in
     let p = s.program.now in
     let x = c.args.s.now in
