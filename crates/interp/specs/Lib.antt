@@ -1,0 +1,2 @@
+pub mod InputItems
+pub mod RunText
