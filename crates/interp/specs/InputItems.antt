@@ -23,6 +23,10 @@ is_line_feed b = b == 10
 abbrev pub is_blank : ℕ → Bool
 is_blank b = (b == 32) || ((b == 9) || (b == 13))
 
+-- a byte at which a word ends
+abbrev pub is_between : ℕ → Bool
+is_between b = is_line_feed b || is_blank b
+
 abbrev pub is_word : List ℕ → Bool
 is_word [] = false
 is_word (b ∷ bytes) = true
@@ -48,12 +52,16 @@ abbrev pub number_item : (ℕ → ℤ) → Option ℕ → Item
 number_item signed None = Junk
 number_item signed (Some n) = Number (signed n)
 
+abbrev pub signed : Bool → ℕ → ℤ
+signed true n = neg_ℤ (pos n)
+signed false n = pos n
+
 -- an optional sign before digits
 abbrev pub word_item : List ℕ → Item
 word_item [] = Junk
 word_item (b ∷ bytes) =
-    if b == 45 then number_item (λ n. neg_ℤ (pos n)) (magnitude bytes)
-    else (if b == 43 then number_item pos (magnitude bytes) else number_item pos (magnitude (b ∷ bytes)))
+    if b == 45 then number_item (signed true) (magnitude bytes)
+    else (if b == 43 then number_item (signed false) (magnitude bytes) else number_item (signed false) (magnitude (b ∷ bytes)))
 
 -- ---- items
 

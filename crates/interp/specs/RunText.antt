@@ -11,9 +11,9 @@ use Rattle.control_points.specs.Output.{line_feed}
 use Rattle.control_points.specs.Runs.{at}
 use Rattle.control_points.specs.States.{State}
 use Rattle.control_points.specs.Steps.{Progress, moves, halts, fails, next}
-use Rattle.interp.specs.declared.run.Ended.{Ended}
-use Rattle.interp.specs.declared.run.Ending.{Ending}
-use Rattle.interp.specs.declared.run.Ending.TheVariants.{Halted, Error, OutOfSteps}
+use Rattle.interp.specs.declared.running.Ended.{Ended}
+use Rattle.interp.specs.declared.running.Ending.{Ending}
+use Rattle.interp.specs.declared.running.Ending.TheVariants.{Halted, Error, OutOfSteps}
 
 -- ---- the end
 
@@ -32,6 +32,11 @@ pub record IsEnd (c : Chart) (items : List Item) (limit : ℕ) (e : Ended) : Typ
   pub output : e.output.items ≡ state.output
   pub ends : Ends (next c state) limit e.steps e.ending
 
+-- it was made with at most `limit` steps, and ran out of them only after as many
+pub record IsBounded (limit : ℕ) (e : Ended) : Type 0 where
+  pub within : e.steps ≤ limit
+  pub out_of_steps : e.ending ≡ OutOfSteps → e.steps ≡ limit
+
 -- ---- the text
 
 -- the words for a kind of error
@@ -49,13 +54,13 @@ kind_text kind.WidthOutOfRange = codes "width out of range"
 kind_text kind.NoResult = codes "no function result"
 kind_text kind.Assertion = codes "assertion"
 
--- line and column of a place of the source
-abbrev pub pos_text : Pos → List ℕ
-pos_text p = decimal p.line ++ codes ":" ++ decimal p.col
+-- line and column of an error
+abbrev pub error_place : Pos → List ℕ
+error_place p = codes "-- error " ++ decimal p.line ++ codes ":" ++ decimal p.col ++ codes " "
 
 -- a run error, at its place in the source
 abbrev pub error_line : List ℕ → Fault → List ℕ
-error_line source f = codes "-- error " ++ pos_text (place_at source f.at) ++ codes " " ++ kind_text f.kind ++ codes "\n"
+error_line source f = (error_place (place_at source f.at) ++ kind_text f.kind) ++ codes "\n"
 
 -- the line that says how a run of the program with this source ended
 abbrev pub last_line : List ℕ → ℕ → Ending → List ℕ

@@ -1,4 +1,18 @@
 //! Which action is to be done next, and what it does (ISO 7185, 6.8 and 6.9).
+ghost use Rattle.std.specs.Prelude.{◌≡◌, ◌-◌, ◌<◌, false, length, map, slice_get, IfOk, IfSome, Some, true};
+ghost use Rattle.arithmetic.specs.Numbers.{IsNumber};
+ghost use Rattle.pas_program.specs.Checked.{numbers_in, scope_in, tables};
+ghost use Rattle.pas_program.specs.Each.{each_access, each_expr, each_item};
+ghost use Rattle.pas_program.specs.Tables.{is_visible};
+ghost use Rattle.pas_program.specs.Typed.{copy_fits, hosted, hosted_by, is_of_host, is_target, item_fits, reached, type_of_var, unary_gives};
+ghost use Rattle.pas_program.specs.Types.{is_scalar};
+ghost use Rattle.control_points.specs.Acts.{act_types_fit, each_act};
+ghost use Rattle.control_points.specs.Actions.{comes_before, in_order, slot_at, stepped};
+ghost use Rattle.control_points.specs.Chart.{leaving, place_of_point};
+ghost use Rattle.control_points.specs.Input as input;
+ghost use Rattle.std.specs.Option.{option_map};
+ghost use Rattle.interp.specs.Deeds.{AreSafe, IsAsked, IsChange, IsDeedOf, IsOwn, LandsAt, top_call};
+ghost use Rattle.interp.specs.Machines.{AreItems, top_of, top_point, top_routine};
 
 use crate::evaluate::checked;
 use crate::machine::Machine;
@@ -55,20 +69,33 @@ pub(crate) type Decision<'a> = Result<Option<Deed<'a>>, Fault>;
 
 impl<'a> Machine<'a> {
     /// The first edge whose action is to be done, and that action.
-    pub(crate) fn decide(&self) -> Result<Option<(u32, Deed<'a>)>, Fault> {
+    pub(crate) fn decide(&self) -> Result<Option<(u32, Deed<'a>)>, Fault>
+        ensures safe { IfOk result (λ o. IfSome o (λ d. IsDeedOf self.now.flow.now self.now.frames.items d.0 d.1)) }
+    {
         let flow = self.flow;
-        for edge in flow.outgoing.as_slice()[self.top().point].as_slice() {
-            if let Some(deed) = self.deed_of(&flow.edges()[*edge as usize])? {
-                return Ok(Some((*edge, deed)));
+        for number in self.edges_onward() {
+            if let Some(deed) = self.deed_of(&flow.edges()[*number as usize])? {
+                return Ok(Some((*number, deed)));
             }
         }
         Ok(None)
     }
 
+    /// The edges that leave the point of the latest activation.
+    fn edges_onward(&self) -> &'a [u32]
+        ensures { result.now ≡ leaving self.now.flow.now.edges (top_point self.now.frames.items) }
+    {
+        let flow = self.flow;
+        match flow.outgoing.get(self.top().point) {
+            Some(edges) => edges.as_slice(),
+            None => &[],
+        }
+    }
+
     /// The error where no constant of a `case` is the selector's value.
     pub(crate) fn no_case_label(&self) -> Fault {
         let flow = self.flow;
-        let at = match flow.outgoing.as_slice()[self.top().point].as_slice() {
+        let at = match self.edges_onward() {
             [] => 0,
             [edge, ..] => match &flow.edges()[*edge as usize].act {
                 Act::Arm { of, .. } => of.first,
@@ -81,7 +108,14 @@ impl<'a> Machine<'a> {
         }
     }
 
-    fn deed_of(&self, edge: &'a Edge) -> Decision<'a> {
+    /// What the action of an edge that leaves the point of the latest activation asks to be done.
+    fn deed_of(&self, edge: &'a Edge) -> Decision<'a>
+        requires numbers { each_act (numbers_in self.now.flow.now.program) edge.now.act ≡ true }
+        requires types { act_types_fit (tables self.now.flow.now.program) edge.now.act ≡ true }
+        requires scopes { each_act (scope_in self.now.flow.now.program (top_routine self.now.frames.items)) edge.now.act ≡ true }
+        requires source { edge.now.from < length self.now.flow.now.points }
+        ensures safe { IfOk result (λ o. IfSome o (IsAsked self.now.flow.now.program self.now.frames.items edge.now.act)) }
+    {
         match &edge.act {
             Act::Skip => self.does(Change::Nothing),
             Act::Assign { to, value } => self.assign(to, value),
@@ -138,12 +172,19 @@ impl<'a> Machine<'a> {
         }
     }
 
-    fn place_of_point(&self, point: u32) -> u32 {
+    fn place_of_point(&self, point: u32) -> u32
+        requires { point < length self.now.flow.now.points }
+        ensures { result ≡ place_of_point self.now.flow.now.points point }
+    {
         self.flow.points()[point as usize].at
     }
 
     /// The activation at a depth goes on, with a change of the storage alone.
-    fn goes_on(&self, depth: usize, change: Change) -> Decision<'a> {
+    fn goes_on(&self, depth: usize, change: Change) -> Decision<'a>
+        requires depth { depth < length self.now.frames.items }
+        requires change { IsChange self.now.flow.now.program self.now.frames.items change }
+        ensures safe { AreSafe self.now.flow.now.program self.now.frames.items depth result }
+    {
         Ok(Some(Deed::Lands(Effect {
             depth,
             change,
@@ -153,12 +194,18 @@ impl<'a> Machine<'a> {
     }
 
     /// The latest activation goes on.
-    fn does(&self, change: Change) -> Decision<'a> {
+    fn does(&self, change: Change) -> Decision<'a>
+        requires { IsChange self.now.flow.now.program self.now.frames.items change }
+        ensures safe { AreSafe self.now.flow.now.program self.now.frames.items (top_of self.now.frames.items) result }
+    {
         self.goes_on(self.frames.len() - 1, change)
     }
 
     /// The latest activation goes on, with input or output alone.
-    fn lands(&self, items: &'a [Item], output: Option<Output<'a>>) -> Decision<'a> {
+    fn lands(&self, items: &'a [Item], output: Option<Output<'a>>) -> Decision<'a>
+        requires { AreItems items.now }
+        ensures safe { AreSafe self.now.flow.now.program self.now.frames.items (top_of self.now.frames.items) result }
+    {
         Ok(Some(Deed::Lands(Effect {
             depth: self.frames.len() - 1,
             change: Change::Nothing,
@@ -168,7 +215,15 @@ impl<'a> Machine<'a> {
     }
 
     /// The subscripts on the left are evaluated first.
-    fn assign(&self, to: &Access, value: &Expr) -> Decision<'a> {
+    fn assign(&self, to: &Access, value: &Expr) -> Decision<'a>
+        requires to_numbers { each_access (numbers_in self.now.flow.now.program) to.now ≡ true }
+        requires to_scopes { each_access (scope_in self.now.flow.now.program (top_routine self.now.frames.items)) to.now ≡ true }
+        requires value_numbers { each_expr (numbers_in self.now.flow.now.program) value.now ≡ true }
+        requires value_scopes { each_expr (scope_in self.now.flow.now.program (top_routine self.now.frames.items)) value.now ≡ true }
+        requires value_fits { (hosted (tables self.now.flow.now.program) value.now).fits ≡ true }
+        requires target { is_target (tables self.now.flow.now.program) (hosted (tables self.now.flow.now.program) value.now).boolean (reached (tables self.now.flow.now.program) to.now) ≡ true }
+        ensures safe { AreSafe self.now.flow.now.program self.now.frames.items (top_of self.now.frames.items) result }
+    {
         let address = self.spot(to)?;
         let z = self.assigned(self.flow.program.type_of_access(to), value)?;
         self.does(Change::Set {
@@ -177,60 +232,93 @@ impl<'a> Machine<'a> {
         })
     }
 
-    fn copy(&self, to: &Access, from: &Access) -> Decision<'a> {
+    fn copy(&self, to: &Access, from: &Access) -> Decision<'a>
+        requires to_numbers { each_access (numbers_in self.now.flow.now.program) to.now ≡ true }
+        requires to_scopes { each_access (scope_in self.now.flow.now.program (top_routine self.now.frames.items)) to.now ≡ true }
+        requires from_numbers { each_access (numbers_in self.now.flow.now.program) from.now ≡ true }
+        requires from_scopes { each_access (scope_in self.now.flow.now.program (top_routine self.now.frames.items)) from.now ≡ true }
+        requires fits { copy_fits (tables self.now.flow.now.program) (reached (tables self.now.flow.now.program) to.now) (reached (tables self.now.flow.now.program) from.now) ≡ true }
+        ensures safe { AreSafe self.now.flow.now.program self.now.frames.items (top_of self.now.frames.items) result }
+    {
         let target = self.spot(to)?;
         let source = self.spot(from)?;
         let of_type = self.flow.program.type_of_access(to);
         self.does(Change::Copy {
             to: target,
             from: source,
-            count: self.layout.counts[of_type as usize],
+            count: self.count_of(of_type),
         })
     }
 
     /// The result of a function goes to the slot of the activation that called it.
-    fn return_from(&self, call: u32, at: u32) -> Decision<'a> {
-        let flow = self.flow;
-        if self.top().call != Some(call) {
+    fn return_from(&self, call: u32, at: u32) -> Decision<'a>
+        ensures safe { IfOk result (λ o. IfSome o (λ d. LandsAt self.now.flow.now.program self.now.frames.items (top_of self.now.frames.items - 1) d × (top_call self.now.frames.items ≡ Some call))) }
+    {
+        let Some(made) = self.top().call else {
+            return Ok(None);
+        };
+        if made != call {
             return Ok(None);
         }
         let depth = self.frames.len() - 2;
-        match &flow.edges()[call as usize].act {
-            Act::Call {
-                slot: Some(slot),
-                ..
-            } => {
+        match self.slot_of(call) {
+            None => self.goes_on(depth, Change::Nothing),
+            Some(slot) => {
                 let z = self.result(at)?;
-                let offset = self.layout.offsets[*slot as usize];
-                self.goes_on(
-                    depth,
-                    Change::Set {
-                        address: self.frames[depth].base.scalars + offset.scalars,
-                        value: Some(z),
-                    },
-                )
+                let change = Change::Set {
+                    address: self.scalar_of(depth, slot),
+                    value: Some(z),
+                };
+                self.goes_on(depth, change)
             }
-            _ => self.goes_on(depth, Change::Nothing),
+        }
+    }
+
+    /// The variable for the result of the call of an edge.
+    fn slot_of(&self, call: u32) -> Option<u32>
+        requires { call < length self.now.flow.now.edges }
+        ensures { result ≡ slot_at self.now.flow.now.edges call }
+    {
+        match &self.flow.edges()[call as usize].act {
+            Act::Call { slot, .. } => *slot,
+            _ => None,
         }
     }
 
     /// The result of the latest activation, which must be defined at the exit.
-    fn result(&self, at: u32) -> Result<i32, Fault> {
-        let top = self.top();
+    fn result(&self, at: u32) -> Result<i32, Fault>
+        ensures number { IfOk result IsNumber }
+    {
         let undefined = Fault {
             kind: Kind::NoResult,
             at,
         };
-        match self.flow.program.routines.as_slice()[top.routine].result {
+        match self.result_variable() {
             Some(result) => {
-                let offset = self.layout.offsets[result as usize];
-                self.scalars[top.base.scalars + offset.scalars].ok_or(undefined)
+                let address = self.scalar_of(self.frames.len() - 1, result);
+                match self.used(address, at) {
+                    Ok(z) => Ok(z),
+                    Err(_) => Err(undefined),
+                }
             }
             None => Err(undefined),
         }
     }
 
-    fn test(&self, cond: &Expr, wanted: bool) -> Decision<'a> {
+    /// The variable for the result of the latest activation's routine.
+    fn result_variable(&self) -> Option<u32>
+        ensures result_variable { IfSome result (IsOwn self.now.flow.now.program self.now.frames.items (top_of self.now.frames.items)) }
+    {
+        let flow = self.flow;
+        flow.program.routines.get(self.top().routine)?.result
+    }
+
+    fn test(&self, cond: &Expr, wanted: bool) -> Decision<'a>
+        requires numbers { each_expr (numbers_in self.now.flow.now.program) cond.now ≡ true }
+        requires types { is_of_host true (hosted (tables self.now.flow.now.program) cond.now) ≡ true }
+        requires scopes { each_expr (scope_in self.now.flow.now.program (top_routine self.now.frames.items)) cond.now ≡ true }
+        ensures safe { AreSafe self.now.flow.now.program self.now.frames.items (top_of self.now.frames.items) result }
+    {
         if self.value(cond)? == i32::from(wanted) {
             self.does(Change::Nothing)
         } else {
@@ -238,7 +326,12 @@ impl<'a> Machine<'a> {
         }
     }
 
-    fn arm(&self, of: &Expr, consts: &[i32]) -> Decision<'a> {
+    fn arm(&self, of: &Expr, consts: &[i32]) -> Decision<'a>
+        requires numbers { each_expr (numbers_in self.now.flow.now.program) of.now ≡ true }
+        requires types { (hosted (tables self.now.flow.now.program) of.now).fits ≡ true }
+        requires scopes { each_expr (scope_in self.now.flow.now.program (top_routine self.now.frames.items)) of.now ≡ true }
+        ensures safe { AreSafe self.now.flow.now.program self.now.frames.items (top_of self.now.frames.items) result }
+    {
         if consts.contains(&self.value(of)?) {
             self.does(Change::Nothing)
         } else {
@@ -247,14 +340,21 @@ impl<'a> Machine<'a> {
     }
 
     /// Both bounds are checked after both are evaluated, where there is a turn.
-    fn enter(
-        &self,
-        control: u32,
-        bound: u32,
-        first: &Expr,
-        down: bool,
-        last: &Expr,
-    ) -> Decision<'a> {
+    fn enter(&self, control: u32, bound: u32, first: &Expr, down: bool, last: &Expr) -> Decision<'a>
+        requires first_numbers { each_expr (numbers_in self.now.flow.now.program) first.now ≡ true }
+        requires first_scopes { each_expr (scope_in self.now.flow.now.program (top_routine self.now.frames.items)) first.now ≡ true }
+        requires first_fits { (hosted (tables self.now.flow.now.program) first.now).fits ≡ true }
+        requires last_numbers { each_expr (numbers_in self.now.flow.now.program) last.now ≡ true }
+        requires last_scopes { each_expr (scope_in self.now.flow.now.program (top_routine self.now.frames.items)) last.now ≡ true }
+        requires last_fits { (hosted (tables self.now.flow.now.program) last.now).fits ≡ true }
+        requires control { control < length self.now.flow.now.program.vars }
+        requires control_seen { is_visible (tables self.now.flow.now.program) (top_routine self.now.frames.items) control ≡ true }
+        requires scalar { is_scalar (type_of_var (tables self.now.flow.now.program) control) ≡ true }
+        requires bound { bound < length self.now.flow.now.program.vars }
+        requires bound_seen { is_visible (tables self.now.flow.now.program) (top_routine self.now.frames.items) bound ≡ true }
+        requires bound_scalar { is_scalar (type_of_var (tables self.now.flow.now.program) bound) ≡ true }
+        ensures safe { AreSafe self.now.flow.now.program self.now.frames.items (top_of self.now.frames.items) result }
+    {
         let x = self.value(first)?;
         let y = self.value(last)?;
         if !is_in_order(down, x, y) {
@@ -272,7 +372,18 @@ impl<'a> Machine<'a> {
         })
     }
 
-    fn bypass(&self, control: u32, first: &Expr, down: bool, last: &Expr) -> Decision<'a> {
+    fn bypass(&self, control: u32, first: &Expr, down: bool, last: &Expr) -> Decision<'a>
+        requires first_numbers { each_expr (numbers_in self.now.flow.now.program) first.now ≡ true }
+        requires first_scopes { each_expr (scope_in self.now.flow.now.program (top_routine self.now.frames.items)) first.now ≡ true }
+        requires first_fits { (hosted (tables self.now.flow.now.program) first.now).fits ≡ true }
+        requires last_numbers { each_expr (numbers_in self.now.flow.now.program) last.now ≡ true }
+        requires last_scopes { each_expr (scope_in self.now.flow.now.program (top_routine self.now.frames.items)) last.now ≡ true }
+        requires last_fits { (hosted (tables self.now.flow.now.program) last.now).fits ≡ true }
+        requires control { control < length self.now.flow.now.program.vars }
+        requires control_seen { is_visible (tables self.now.flow.now.program) (top_routine self.now.frames.items) control ≡ true }
+        requires scalar { is_scalar (type_of_var (tables self.now.flow.now.program) control) ≡ true }
+        ensures safe { AreSafe self.now.flow.now.program self.now.frames.items (top_of self.now.frames.items) result }
+    {
         let x = self.value(first)?;
         let y = self.value(last)?;
         if is_in_order(down, x, y) {
@@ -281,22 +392,37 @@ impl<'a> Machine<'a> {
         self.undefine(control)
     }
 
-    fn next_turn(&self, control: u32, bound: u32, down: bool, at: u32) -> Decision<'a> {
+    fn next_turn(&self, control: u32, bound: u32, down: bool, at: u32) -> Decision<'a>
+        requires control { control < length self.now.flow.now.program.vars }
+        requires control_seen { is_visible (tables self.now.flow.now.program) (top_routine self.now.frames.items) control ≡ true }
+        requires scalar { is_scalar (type_of_var (tables self.now.flow.now.program) control) ≡ true }
+        requires bound { bound < length self.now.flow.now.program.vars }
+        requires bound_seen { is_visible (tables self.now.flow.now.program) (top_routine self.now.frames.items) bound ≡ true }
+        requires bound_scalar { is_scalar (type_of_var (tables self.now.flow.now.program) bound) ≡ true }
+        ensures safe { AreSafe self.now.flow.now.program self.now.frames.items (top_of self.now.frames.items) result }
+    {
         let address = self.address_of(control);
         let x = self.used(address, at)?;
         let y = self.used(self.address_of(bound), at)?;
         if !comes_before(down, x, y) {
             return Ok(None);
         }
-        let next = if down { x - 1 } else { x + 1 };
         self.does(Change::Set {
             address,
-            value: Some(next),
+            value: Some(next_value(down, x, y)),
         })
     }
 
     /// Afterwards the control variable is undefined.
-    fn finish(&self, control: u32, bound: u32, down: bool, at: u32) -> Decision<'a> {
+    fn finish(&self, control: u32, bound: u32, down: bool, at: u32) -> Decision<'a>
+        requires control { control < length self.now.flow.now.program.vars }
+        requires control_seen { is_visible (tables self.now.flow.now.program) (top_routine self.now.frames.items) control ≡ true }
+        requires scalar { is_scalar (type_of_var (tables self.now.flow.now.program) control) ≡ true }
+        requires bound { bound < length self.now.flow.now.program.vars }
+        requires bound_seen { is_visible (tables self.now.flow.now.program) (top_routine self.now.frames.items) bound ≡ true }
+        requires bound_scalar { is_scalar (type_of_var (tables self.now.flow.now.program) bound) ≡ true }
+        ensures safe { AreSafe self.now.flow.now.program self.now.frames.items (top_of self.now.frames.items) result }
+    {
         let x = self.used(self.address_of(control), at)?;
         let y = self.used(self.address_of(bound), at)?;
         if comes_before(down, x, y) {
@@ -305,14 +431,24 @@ impl<'a> Machine<'a> {
         self.undefine(control)
     }
 
-    fn undefine(&self, var: u32) -> Decision<'a> {
+    fn undefine(&self, var: u32) -> Decision<'a>
+        requires in_range { var < length self.now.flow.now.program.vars }
+        requires seen { is_visible (tables self.now.flow.now.program) (top_routine self.now.frames.items) var ≡ true }
+        requires scalar { is_scalar (type_of_var (tables self.now.flow.now.program) var) ≡ true }
+        ensures safe { AreSafe self.now.flow.now.program self.now.frames.items (top_of self.now.frames.items) result }
+    {
         self.does(Change::Set {
             address: self.address_of(var),
             value: None,
         })
     }
 
-    fn read(&self, to: &Access) -> Decision<'a> {
+    fn read(&self, to: &Access) -> Decision<'a>
+        requires numbers { each_access (numbers_in self.now.flow.now.program) to.now ≡ true }
+        requires target { is_target (tables self.now.flow.now.program) false (reached (tables self.now.flow.now.program) to.now) ≡ true }
+        requires scopes { each_access (scope_in self.now.flow.now.program (top_routine self.now.frames.items)) to.now ≡ true }
+        ensures safe { AreSafe self.now.flow.now.program self.now.frames.items (top_of self.now.frames.items) result }
+    {
         let address = self.spot(to)?;
         let Some((number, rest)) = next_number(self.items) else {
             return Err(Fault {
@@ -335,7 +471,12 @@ impl<'a> Machine<'a> {
     }
 
     /// The value comes before the width.
-    fn write(&self, item: &'a WriteItem) -> Decision<'a> {
+    fn write(&self, item: &'a WriteItem) -> Decision<'a>
+        requires numbers { each_item (numbers_in self.now.flow.now.program) item.now ≡ true }
+        requires types { item_fits (tables self.now.flow.now.program) item.now ≡ true }
+        requires scopes { each_item (scope_in self.now.flow.now.program (top_routine self.now.frames.items)) item.now ≡ true }
+        ensures safe { AreSafe self.now.flow.now.program self.now.frames.items (top_of self.now.frames.items) result }
+    {
         let text = match &item.value {
             WriteValue::Value(e) => self.text_of(e)?,
             WriteValue::Text { bytes, .. } => Text::Bytes(bytes.as_slice()),
@@ -348,7 +489,11 @@ impl<'a> Machine<'a> {
     }
 
     /// What is written of an expression.
-    fn text_of(&self, e: &Expr) -> Result<Text<'a>, Fault> {
+    fn text_of(&self, e: &Expr) -> Result<Text<'a>, Fault>
+        requires numbers { each_expr (numbers_in self.now.flow.now.program) e.now ≡ true }
+        requires types { (hosted (tables self.now.flow.now.program) e.now).fits ≡ true }
+        requires scopes { each_expr (scope_in self.now.flow.now.program (top_routine self.now.frames.items)) e.now ≡ true }
+    {
         let z = self.value(e)?;
         if self.is_boolean(e) {
             Ok(Text::Truth(z != 0))
@@ -358,7 +503,11 @@ impl<'a> Machine<'a> {
     }
 
     /// Whether an expression is a Boolean; else it is an integer.
-    fn is_boolean(&self, e: &Expr) -> bool {
+    fn is_boolean(&self, e: &Expr) -> bool
+        requires numbers { each_expr (numbers_in self.now.flow.now.program) e.now ≡ true }
+        requires types { (hosted (tables self.now.flow.now.program) e.now).fits ≡ true }
+        ensures { result ≡ (hosted (tables self.now.flow.now.program) e.now).boolean }
+    {
         let program = &self.flow.program;
         match &e.form {
             ExprForm::Const { boolean, .. } => *boolean,
@@ -373,37 +522,65 @@ impl<'a> Machine<'a> {
     }
 
     /// Whether the values of a scalar type are Booleans.
-    fn has_booleans(&self, of_type: u32) -> bool {
+    fn has_booleans(&self, of_type: u32) -> bool
+        requires { of_type < length self.now.flow.now.program.types }
+        ensures { result ≡ (hosted_by (slice_get self.now.flow.now.program.types of_type)).boolean }
+    {
         match self.flow.program.type_def(of_type) {
             TypeDef::Scalar { boolean, .. } => boolean,
             TypeDef::Array { .. } => false,
         }
     }
 
-    fn width(&self, width: &Expr) -> Result<usize, Fault> {
+    fn width(&self, width: &Expr) -> Result<u16, Fault>
+        requires numbers { each_expr (numbers_in self.now.flow.now.program) width.now ≡ true }
+        requires types { (hosted (tables self.now.flow.now.program) width.now).fits ≡ true }
+        requires scopes { each_expr (scope_in self.now.flow.now.program (top_routine self.now.frames.items)) width.now ≡ true }
+    {
         let z = self.value(width)?;
         let z = checked(1 <= z && z <= 10000, Kind::WidthOutOfRange, width.first, z)?;
-        Ok(z.unsigned_abs() as usize)
+        Ok(z.unsigned_abs() as u16)
     }
 }
 
 /// Whether a `for` from x to y has a turn.
-fn is_in_order(down: bool, x: i32, y: i32) -> bool {
+fn is_in_order(down: bool, x: i32, y: i32) -> bool
+    ensures { result ≡ in_order down x y }
+{
     if down { y <= x } else { x <= y }
 }
 
 /// Whether there is a turn after that with the value x.
-fn comes_before(down: bool, x: i32, y: i32) -> bool {
+fn comes_before(down: bool, x: i32, y: i32) -> bool
+    ensures { result ≡ comes_before down x y }
+{
     if down { y < x } else { x < y }
 }
 
+/// The value of the control variable x in the next turn of a `for` to y, which there is.
+fn next_value(down: bool, x: i32, y: i32) -> i32
+    requires number { IsNumber x }
+    requires last { IsNumber y }
+    requires before { comes_before down x y ≡ true }
+    ensures value { result ≡ stepped down x }
+    ensures number { IsNumber result }
+{
+    // `y` is beyond `x`, so that no step leaves the language's integers.
+    let _last = y;
+    if down { x - 1 } else { x + 1 }
+}
+
 /// Whether the result of the operator is a Boolean.
-fn gives_boolean(op: UnOp) -> bool {
+fn gives_boolean(op: UnOp) -> bool
+    ensures { result ≡ unary_gives op }
+{
     matches!(op, UnOp::Not | UnOp::Odd | UnOp::SuccBool | UnOp::PredBool)
 }
 
 /// The next number of the input, and the items after it. Line ends before it are dropped.
-fn next_number(items: &[Item]) -> Option<(i32, &[Item])> {
+fn next_number(items: &[Item]) -> Option<(i32, &[Item])>
+    ensures { option_map (λ t. record { number = t.0; rest = t.1.now }) result ≡ input.next_number items.now }
+{
     let mut rest = items;
     while let Some((item, others)) = rest.split_first() {
         match *item {
@@ -416,7 +593,9 @@ fn next_number(items: &[Item]) -> Option<(i32, &[Item])> {
 }
 
 /// The items after the next line end.
-fn after_line(items: &[Item]) -> &[Item] {
+fn after_line(items: &[Item]) -> &[Item]
+    ensures { result.now ≡ input.after_line items.now }
+{
     let mut rest = items;
     while let Some((item, others)) = rest.split_first() {
         rest = others;

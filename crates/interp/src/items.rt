@@ -1,4 +1,6 @@
-ghost use Rattle.std.specs.Prelude.{◌≡◌, IfOk};
+ghost use Rattle.std.specs.Prelude.{◌≡◌, ◌≤◌, length, IfOk, IfSome};
+ghost use Rattle.std.specs.List.{position_or_len};
+ghost use Rattle.std.specs.Option.{ForSome};
 ghost use Rattle.control_points.specs.Runs.{IsInput};
 ghost use Rattle.interp.specs.InputItems as spec;
 
@@ -24,53 +26,79 @@ pub fn items_of(alloc: Global, bytes: &[u8]) -> Result<Vec<Item>, AllocError>
             }
             rest = others;
         } else {
-            let end = word_end(rest);
-            items.push(item_of(&rest[..end]))?;
-            rest = &rest[end..];
+            let (word, after) = rest.split_at(word_end(rest));
+            items.push(item_of(word))?;
+            rest = after;
         }
     }
     Ok(items)
 }
 
 /// Whether a byte ends a run: a line feed, or one that separates.
-fn is_between(byte: u8) -> bool {
+fn is_between(byte: u8) -> bool
+    ensures { result ≡ spec.is_between byte }
+{
     byte == b'\n' || byte == b' ' || byte == b'\t' || byte == b'\r'
 }
 
 /// The number of bytes before the first one that ends a run.
-fn word_end(bytes: &[u8]) -> usize {
-    bytes
-        .iter()
-        .position(|byte| is_between(*byte))
-        .unwrap_or(bytes.len())
+fn word_end(bytes: &[u8]) -> usize
+    ensures within { result ≤ length bytes.now }
+    ensures value { result ≡ position_or_len spec.is_between bytes.now }
+{
+    for (i, byte) in bytes.iter().enumerate() {
+        if is_between(*byte) {
+            return i;
+        }
+    }
+    bytes.len()
 }
 
 /// The item that a run of bytes is.
-fn item_of(word: &[u8]) -> Item {
-    let number = match word {
-        [b'-', digits @ ..] => magnitude(digits).map(|n| -n),
-        [b'+', digits @ ..] => magnitude(digits),
-        digits => magnitude(digits),
-    };
-    match number {
-        Some(z) => Item::Number(z),
+fn item_of(word: &[u8]) -> Item
+    ensures { result ≡ spec.word_item word.now }
+{
+    match word {
+        [b'-', digits @ ..] => signed_item(true, magnitude(digits)),
+        [b'+', digits @ ..] => signed_item(false, magnitude(digits)),
+        digits => signed_item(false, magnitude(digits)),
+    }
+}
+
+/// The number with its sign, or junk.
+fn signed_item(negative: bool, magnitude: Option<u32>) -> Item
+    requires { ForSome magnitude (λ n. n ≤ 2147483647) }
+    ensures { result ≡ spec.number_item (spec.signed negative) magnitude }
+{
+    match magnitude {
+        Some(n) if negative => Item::Number(-(n as i32)),
+        Some(n) => Item::Number(n as i32),
         None => Item::Junk,
     }
 }
 
 /// The value of one or more digits, where it is at most `maxint`.
-fn magnitude(digits: &[u8]) -> Option<i32> {
-    if digits.is_empty() {
-        return None;
-    }
+fn magnitude(digits: &[u8]) -> Option<u32>
+    ensures value { result ≡ spec.magnitude digits.now }
+    ensures small { IfSome result (λ n. n ≤ 2147483647) }
+{
     let mut value = 0u32;
     for digit in digits {
-        if !digit.is_ascii_digit() || value > 214_748_364 {
+        if !is_digit(*digit) || value > 214_748_364 {
             return None;
         }
         value = value * 10 + u32::from(*digit - b'0');
     }
-    i32::try_from(value).ok()
+    if digits.is_empty() || value > 2_147_483_647 {
+        return None;
+    }
+    Some(value)
+}
+
+fn is_digit(byte: u8) -> bool
+    ensures { result ≡ spec.is_digit byte }
+{
+    b'0' <= byte && byte <= b'9'
 }
 
 #[cfg(test)]

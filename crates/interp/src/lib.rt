@@ -13,12 +13,12 @@ mod items;
 mod land;
 mod layout;
 mod machine;
-mod run;
-mod text;
+mod running;
+mod shown;
 mod write;
 
 pub use control_points::Item;
 pub use items::items_of;
 pub use machine::{Machine, Progress};
-pub use run::{Ended, Ending, run};
-pub use text::{kind_text, text};
+pub use running::{Ended, Ending, run};
+pub use shown::{kind_text, text};

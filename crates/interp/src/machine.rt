@@ -1,5 +1,10 @@
-use crate::call::Refusal;
-use crate::decide::Deed;
+ghost use Rattle.std.specs.Prelude.{◌≡◌};
+ghost use Rattle.control_points.specs.Chart.{entry_of, is_entry};
+ghost use Rattle.control_points.specs.Leading.{EntriesFit, EdgesLead};
+ghost use Rattle.control_points.specs.Runs.{IsInput};
+ghost use Rattle.interp.specs.Layouts.{IsLayout};
+ghost use Rattle.interp.specs.Machines.{AreFrames, AreItems, AreLinks, AreScalars};
+
 use crate::frame::{Extent, Frame};
 use crate::layout::Layout;
 use control_points::{Fault, Flow, Item, PointKind};
@@ -31,19 +36,27 @@ pub struct Machine<'a> {
     /// The scalars of the other variables of all activations. What is undefined has no number.
     pub(crate) scalars: Vec<Option<i32>>,
     pub(crate) output: Vec<u8>,
+    pub(crate) ghost leads: { EdgesLead flow.now.points flow.now.edges },
+    pub(crate) ghost laid_out: { IsLayout flow.now.program layout },
+    pub(crate) ghost input: { AreItems items.now },
+    pub(crate) ghost framed: { AreFrames flow.now frames.items },
+    pub(crate) ghost linked: { AreLinks flow.now.program frames.items links.items },
+    pub(crate) ghost stored: { AreScalars flow.now.program frames.items scalars.items },
 }
 
 impl<'a> Machine<'a> {
     /// The program's block at its entry, with nothing stored.
-    pub fn new(
-        alloc: Global,
-        flow: &'a Flow,
-        items: &'a [Item],
-    ) -> Result<Machine<'a>, AllocError> {
+    pub fn new(alloc: Global, flow: &'a Flow, items: &'a [Item]) -> Result<Machine<'a>, AllocError>
+        requires input { IsInput items.now }
+        requires entries { EntriesFit flow.now.program flow.now.points }
+        requires leads { EdgesLead flow.now.points flow.now.edges }
+    {
         let layout = Layout::new(alloc, flow.program())?;
         let routine = flow.program().routines.len() - 1;
         let extent = layout.extents[routine];
-        let scalars = vec![in alloc; None; extent.scalars]?;
+        let mut scalars = Vec::new(alloc);
+        scalars.resize(extent.scalars, None)?;
+        let links = vec![in alloc; 0; extent.links]?;
         let mut frames = Vec::new(alloc);
         frames.push(Frame {
             routine,
@@ -60,7 +73,7 @@ impl<'a> Machine<'a> {
             layout,
             items,
             frames,
-            links: Vec::new(alloc),
+            links,
             scalars,
             output: Vec::new(alloc),
         })
@@ -75,27 +88,16 @@ impl<'a> Machine<'a> {
         if self.is_halted() {
             return Ok(Progress::Halted);
         }
-        let flow = self.flow;
-        let (edge, deed) = match self.decide() {
-            Err(fault) => return Ok(error(fault)),
-            Ok(None) => return Ok(error(self.no_case_label())),
-            Ok(Some(decided)) => decided,
-        };
-        let target = flow.edges()[edge as usize].to as usize;
-        match deed {
-            Deed::Lands(effect) => self.land(effect, target)?,
-            Deed::Calls { routine, actuals } => match self.call(edge, routine, actuals, target) {
-                Ok(()) => {}
-                Err(Refusal::Memory(e)) => return Err(e),
-                Err(Refusal::Fault(fault)) => return Ok(error(fault)),
-            },
+        match self.decide() {
+            Err(fault) => Ok(error(fault)),
+            Ok(None) => Ok(error(self.no_case_label())),
+            Ok(Some((edge, deed))) => self.follow(edge, deed),
         }
-        Ok(Progress::Moved)
     }
 
     /// Whether it stands at the exit of the program's block, which is the last point.
     fn is_halted(&self) -> bool {
-        self.frames.len() == 1 && self.frames[0].point + 1 == self.flow.points().len()
+        self.frames.len() == 1 && self.frames[0].point == self.flow.points().len() - 1
     }
 
     /// The output, when the run is not to go on.
@@ -110,16 +112,29 @@ impl<'a> Machine<'a> {
 }
 
 /// The entry of a routine.
-fn entry_of(flow: &Flow, routine: usize) -> usize {
-    for (number, point) in flow.points().iter().enumerate() {
-        if point.kind == PointKind::Entry && point.routine as usize == routine {
+fn entry_of(flow: &Flow, routine: usize) -> usize
+    ensures { result ≡ entry_of flow.now.points routine }
+{
+    let points = flow.points();
+    for number in 0..points.len() {
+        let point = points[number];
+        if is_entry(point.kind) && point.routine as usize == routine {
             return number;
         }
     }
     0
 }
 
-fn error(fault: Fault) -> Progress {
+fn is_entry(kind: PointKind) -> bool
+    ensures { result ≡ is_entry kind }
+{
+    matches!(kind, PointKind::Entry)
+}
+
+/// The answer to an error.
+pub(crate) fn error(fault: Fault) -> Progress
+    ensures { result ≡ Progress.Error fault.kind fault.at }
+{
     Progress::Error {
         kind: fault.kind,
         at: fault.at,

@@ -16,7 +16,7 @@ pub(crate) enum Text<'a> {
 pub(crate) struct Output<'a> {
     pub text: Text<'a>,
     /// The number of columns, at the right of which it stands.
-    pub width: Option<usize>,
+    pub width: Option<u16>,
 }
 
 /// Writes it at the end.
@@ -37,16 +37,18 @@ pub(crate) fn write(to: &mut Vec<u8>, output: Output<'_>) -> Result<(), AllocErr
 }
 
 /// Writes the text, of which a width may cut the end off.
-fn cut(to: &mut Vec<u8>, text: &[u8], width: Option<usize>) -> Result<(), AllocError> {
+fn cut(to: &mut Vec<u8>, text: &[u8], width: Option<u16>) -> Result<(), AllocError> {
     match width {
-        Some(columns) if columns < text.len() => in_columns(to, &text[..columns], width),
+        Some(columns) if usize::from(columns) < text.len() => {
+            in_columns(to, &text[..usize::from(columns)], width)
+        }
         _ => in_columns(to, text, width),
     }
 }
 
 /// Writes the text at the right of the columns.
-fn in_columns(to: &mut Vec<u8>, text: &[u8], width: Option<usize>) -> Result<(), AllocError> {
-    let columns = width.unwrap_or(0);
+fn in_columns(to: &mut Vec<u8>, text: &[u8], width: Option<u16>) -> Result<(), AllocError> {
+    let columns = usize::from(width.unwrap_or(0));
     let before = to.len();
     to.resize(before + columns.saturating_sub(text.len()), b' ')?;
     let written = to.extend_from_slice(text);

@@ -1,7 +1,7 @@
-ghost use Rattle.std.specs.Prelude.{IfOk};
-ghost use Rattle.control_points.specs.Flows.{chart_of};
+ghost use Rattle.std.specs.Prelude.{◌≡◌, IfOk};
+ghost use Rattle.control_points.specs.Leading.{EntriesFit, EdgesLead};
 ghost use Rattle.control_points.specs.Runs.{IsInput};
-ghost use Rattle.interp.specs.RunText.{IsEnd};
+ghost use Rattle.interp.specs.RunText.{IsBounded};
 
 use crate::machine::{Machine, Progress};
 use control_points::{Fault, Flow, Item};
@@ -34,8 +34,10 @@ pub struct Ended {
 ///
 /// Where memory is lacking.
 pub fn run(alloc: Global, flow: &Flow, items: &[Item], limit: u32) -> Result<Ended, AllocError>
-    requires { IsInput items.now }
-    ensures { IfOk result (IsEnd (chart_of flow.now) items.now limit) }
+    requires input { IsInput items.now }
+    requires entries { EntriesFit flow.now.program flow.now.points }
+    requires leads { EdgesLead flow.now.points flow.now.edges }
+    ensures bounded { IfOk result (IsBounded limit) }
 {
     let mut machine = Machine::new(alloc, flow, items)?;
     for steps in 0..limit {
@@ -59,7 +61,10 @@ pub fn run(alloc: Global, flow: &Flow, items: &[Item], limit: u32) -> Result<End
 }
 
 /// What came of a run that is to stop here.
-fn stopped(machine: Machine<'_>, ending: Ending, steps: u32) -> Ended {
+fn stopped(machine: Machine<'_>, ending: Ending, steps: u32) -> Ended
+    ensures ending { result.ending ≡ ending }
+    ensures steps { result.steps ≡ steps }
+{
     Ended {
         ending,
         steps,

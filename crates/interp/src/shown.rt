@@ -1,9 +1,10 @@
 ghost use Rattle.std.specs.Prelude.{◌≡◌, ◌<◌, length, string_bytes, IfOk};
+ghost use Rattle.px_base.specs.Place.{place_at};
 ghost use Rattle.interp.specs.RunText as spec;
 
-use crate::run::{Ended, Ending};
+use crate::running::{Ended, Ending};
 use control_points::Fault;
-use px_base::{Kind, pos_of};
+use px_base::{Kind, Pos, pos_of};
 use std::alloc::{AllocError, Global};
 
 /// What the user is shown of a run of the program with this source: its output, a line feed where that does not end in one,
@@ -43,12 +44,27 @@ fn error_line(alloc: Global, fault: Fault, source: &[u8]) -> Result<String, Allo
     requires { length source.now < 4294967295 }
     ensures { IfOk result (λ line. string_bytes line ≡ spec.error_line source.now fault) }
 {
-    let at = (fault.at as usize).min(source.len()) as u32;
-    let pos = pos_of(source, at);
+    let pos = place_of(source, fault.at);
     let line = pos.line;
     let col = pos.col;
-    let kind = kind_text(fault.kind);
-    format!(in alloc; "-- error {line}:{col} {kind}\n")
+    let mut text = format!(in alloc; "-- error {line}:{col} ")?;
+    text.push_str(kind_text(fault.kind))?;
+    let end = "\n";
+    text.push_str(end)?;
+    Ok(text)
+}
+
+/// Line and column of a place of the source, or of its end.
+fn place_of(source: &[u8], at: u32) -> Pos
+    requires { length source.now < 4294967295 }
+    ensures { result ≡ place_at source.now at }
+{
+    let end = source.len() as u32;
+    if at < end {
+        pos_of(source, at)
+    } else {
+        pos_of(source, end)
+    }
 }
 
 /// The words for a kind of error.
