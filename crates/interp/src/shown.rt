@@ -86,3 +86,38 @@ pub fn kind_text(kind: Kind) -> &'static str
         Kind::Assertion => "assertion",
     }
 }
+
+#[cfg(test)]
+mod tests {
+    use super::*;
+    use std::test::Fail;
+
+    #[test]
+    fn of_a_run(rt: HostRuntime) -> Result<(), Fail> {
+        let fault = Fault {
+            kind: Kind::DivisionByZero,
+            at: 4,
+        };
+        let cases = [
+            ("", Ending::Halted, 5, "-- halted after 5 steps\n"),
+            ("a", Ending::Halted, 1, "a\n-- halted after 1 steps\n"),
+            ("a\n", Ending::OutOfSteps, 7, "a\n-- out of steps after 7\n"),
+            (
+                "a\n\n",
+                Ending::Error(fault),
+                7,
+                "a\n\n-- error 2:2 division by zero\n",
+            ),
+        ];
+        for (output, ending, steps, want) in cases {
+            let ended = Ended {
+                ending,
+                steps,
+                output: output.as_bytes().to_vec(rt.alloc())?,
+            };
+            let shown = text(rt.alloc(), ended, b"ab\ncd\n")?;
+            assert_eq!(rt; shown.as_slice(), want.as_bytes(), "after {output:?}");
+        }
+        Ok(())
+    }
+}

@@ -1,6 +1,7 @@
 use Rattle.std.proofs.Common.{◌≡◌, ◌+◌, ◌*◌, refl, rules, ap, arith, ◌∙◌, sym, subst, drop, map, true}
 use Rattle.pas_program.specs.declared.expr.Actual.TheViews.{the_lemmas}
 use Rattle.pas_program.specs.declared.expr.Actual.TheViews as views
+use Rattle.pas_program.specs.declared.expr.ExprForm.TheVariants.{rolls-Binary, rolls-Call}
 use Rattle.pas_program.specs.Checked.{numbers_in, scope_in, tables}
 use Rattle.pas_program.specs.Each.{each_expr}
 use Rattle.pas_program.proofs.Elements.{all_true_at}
@@ -68,29 +69,26 @@ value-used-requires t c =
     scalar_place p m.frames.items (reached (tables p) c.in-Value.access).of_type c.in_ok-spot-in-Value.field-0 (value_scalar (tables p) c.args.e.now c.in-Value.access _ c.in-Value.is refl c.requires.types) c.in_ok-spot-in-Value.ensures.room
 
 pub value-value-requires-in-Binary-2 : goal.value-value-requires-in-Binary-2
-unfolding views.out-ExprForm denote.Hole.Carrier.out
 value-value-requires-in-Binary-2 t c =
     let m = c.args.self.now in
     let p = m.flow.now.program in
     let e = c.args.e.now in
     (search (rules, the_lemmas),
-    (subst (λ x. each_expr (numbers_in p) x ≡ true) (sym c.get-in-Binary-2.ensures) (right_each (numbers_in p) e c.in-Binary.op c.in-Binary.left c.in-Binary.right c.in-Binary.at _ c.in-Binary.is refl c.requires.numbers),
-    (subst (λ x. (hosted (tables p) x).fits ≡ true) (sym c.get-in-Binary-2.ensures) (right_fits (tables p) e c.in-Binary.op c.in-Binary.left c.in-Binary.right c.in-Binary.at _ c.in-Binary.is refl c.requires.types),
-    subst (λ x. each_expr (scope_in p (top_routine m.frames.items)) x ≡ true) (sym c.get-in-Binary-2.ensures) (right_each (scope_in p (top_routine m.frames.items)) e c.in-Binary.op c.in-Binary.left c.in-Binary.right c.in-Binary.at _ c.in-Binary.is refl c.requires.scopes))))
+    (subst (λ x. each_expr (numbers_in p) x ≡ true) (sym c.get-in-Binary-2.ensures) (right_each (numbers_in p) e c.in-Binary.op c.in-Binary.left c.in-Binary.right c.in-Binary.at (c.in-Binary.is ∙ sym (rolls-Binary c.in-Binary.op c.in-Binary.left c.in-Binary.right c.in-Binary.at)) c.requires.numbers),
+    (subst (λ x. (hosted (tables p) x).fits ≡ true) (sym c.get-in-Binary-2.ensures) (right_fits (tables p) e c.in-Binary.op c.in-Binary.left c.in-Binary.right c.in-Binary.at (c.in-Binary.is ∙ sym (rolls-Binary c.in-Binary.op c.in-Binary.left c.in-Binary.right c.in-Binary.at)) c.requires.types),
+    subst (λ x. each_expr (scope_in p (top_routine m.frames.items)) x ≡ true) (sym c.get-in-Binary-2.ensures) (right_each (scope_in p (top_routine m.frames.items)) e c.in-Binary.op c.in-Binary.left c.in-Binary.right c.in-Binary.at (c.in-Binary.is ∙ sym (rolls-Binary c.in-Binary.op c.in-Binary.left c.in-Binary.right c.in-Binary.at)) c.requires.scopes))))
 
 pub value-address_of-requires-clause-visible : goal.value-address_of-requires-clause-visible
-unfolding views.out-ExprForm denote.Hole.Carrier.out
 value-address_of-requires-clause-visible t c =
     let m = c.args.self.now in
     let p = m.flow.now.program in
     let t = top_is m.flow.now m.frames.items m.framed in
-    let s = call_each (scope_in p (top_routine m.frames.items)) c.args.e.now c.in-Call.routine c.in-Call.actuals c.in-Call.slot c.in-Call.at _ c.in-Call.is refl c.requires.scopes in
+    let s = call_each (scope_in p (top_routine m.frames.items)) c.args.e.now c.in-Call.routine c.in-Call.actuals c.in-Call.slot c.in-Call.at (c.in-Call.is ∙ sym (rolls-Call c.in-Call.routine c.in-Call.actuals c.in-Call.slot c.in-Call.at)) c.requires.scopes in
     own_visible p (top_routine m.frames.items) c.in-Call.slot kind.Slot (let r = t.stands.routine_in_range in let s = t.routine in omega arith)
         (and_parts (is_callable (tables p) (top_routine m.frames.items) c.in-Call.routine) _ s).1
 
 pub value-used-requires-in-Call : goal.value-used-requires-in-Call
-unfolding views.out-ExprForm denote.Hole.Carrier.out
 value-used-requires-in-Call t c =
     let m = c.args.self.now in
     let p = m.flow.now.program in
-    scalar_room p m.frames.items c.in-Call.slot c.address_of.result (call_scalar (tables p) c.args.e.now c.in-Call.routine c.in-Call.actuals c.in-Call.slot c.in-Call.at _ c.in-Call.is refl c.requires.types) c.address_of.ensures.room
+    scalar_room p m.frames.items c.in-Call.slot c.address_of.result (call_scalar (tables p) c.args.e.now c.in-Call.routine c.in-Call.actuals c.in-Call.slot c.in-Call.at (c.in-Call.is ∙ sym (rolls-Call c.in-Call.routine c.in-Call.actuals c.in-Call.slot c.in-Call.at)) c.requires.types) c.address_of.ensures.room

@@ -1,4 +1,4 @@
-use Rattle.std.proofs.Common.{◌≡◌, suc, ◌-◌, ◌∷◌, ◌++◌, [], ap, arith, ◌∙◌, sym, subst, length, Some, get_or, refl}
+use Rattle.std.proofs.Common.{◌≡◌, ℕ, suc, ◌-◌, ◌∷◌, ◌++◌, [], ap, arith, ◌∙◌, sym, subst, length, Some, get_or, refl}
 use Rattle.std.specs.List.{slice_get}
 use Rattle.std.proofs.lemmas.List.{length-replicate}
 use Rattle.std.proofs.lemmas.Option.{slice_get_within, get_or_from_slice_get}
@@ -33,14 +33,14 @@ invariant_of-result c =
     let extent : c.index-extent.result.now ≡ extent_of p r = c.index-extent.ensures ∙ get_or_from_slice_get c.in_ok-layout.layout.extents.items r (extent_of p r) c.index-extent.result.now (laid.extents r n) in
     let frames : c.push.new.self.items ≡ first_frame r c.entry_of.result ∷ [] = c.in_ok-push.ensures.items ∙ ap (λ xs. xs ++ first_frame r c.entry_of.result ∷ []) c.new-frames.ensures.items in
     let links = c.in_ok-links.ensures.items_if_clones_equal (λ y h. h) in
-    let long = length-replicate c.index-extent.result.now.links 0 in
+    let long : length c.in_ok-links.links.items ≡ c.index-extent.result.now.links = ap length links ∙ length-replicate {A = ℕ} c.index-extent.result.now.links 0 in
     record {
       leads = c.requires.leads;
       laid_out = laid;
       input = input_items c.args.items.now c.requires.input;
       framed = subst (AreFrames f) (sym frames) (first_frames f r c.entry_of.result w.0 last w.1 (ap (routine_at f.points) c.entry_of.ensures ∙ c.requires.entries.entry r n));
       linked = subst (λ xs. AreLinks p xs c.in_ok-links.links.items) (sym frames)
-          (first_links f r c.entry_of.result w.0 last w.1 c.in_ok-links.links.items (let l = ap length links in let x = ap (λ (x : Extent). x.links) extent in omega arith));
+          (first_links f r c.entry_of.result w.0 last w.1 c.in_ok-links.links.items (omega (arith, long, ap (λ (x : Extent). x.links) extent)));
       stored = subst (λ xs. AreScalars p xs c.resize.new.self.items) (sym frames)
           (first_scalars p r c.entry_of.result c.new-scalars.result.items c.resize.new.self.items c.index-extent.result.now.scalars _ c.new-scalars.ensures.items c.new-scalars.ensures.len c.in_ok-resize.ensures.items (let x = ap (λ (x : Extent). x.scalars) extent in omega arith));
     }
