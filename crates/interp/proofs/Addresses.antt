@@ -1,28 +1,25 @@
 -- Where variables are found.
-use Rattle.std.proofs.Common.{◌≡◌, ℕ, suc, ◌+◌, ◌-◌, ◌<◌, ◌≤◌, Bool, true, false, ◌&&◌, List, length, get_or, refl, sym, ap, ◌∙◌, subst, arith, ℤ, Option, Some, None}
+use Rattle.std.proofs.Common.{◌≡◌, ℕ, ◌+◌, ◌<◌, true, false, List, length, get_or, refl, sym, ap, ◌∙◌, arith, Option, Some, None}
 use Rattle.std.specs.List.{slice_get}
 use Rattle.std.specs.Option.{option_map, option_and_then, unwrap_or}
-use Rattle.std.proofs.lemmas.Bool.{true≢false, and_parts, ltb-true, eqb-true}
-use Rattle.std.proofs.lemmas.Option.{none-some, slice_get_within, get_or_from_slice_get}
+use Rattle.std.proofs.lemmas.Bool.{true≢false, and_parts, eqb-true}
+use Rattle.std.proofs.lemmas.Option.{slice_get_within, get_or_from_slice_get}
 use Rattle.pas_program.specs.declared.program.Program.{Program}
-use Rattle.pas_program.specs.declared.type_def.TypeDef.{TypeDef}
-use Rattle.pas_program.specs.declared.type_def.TypeDef.TheVariants.{Scalar, Array}
 use Rattle.pas_program.specs.declared.variable.VarDef.{VarDef}
 use Rattle.pas_program.specs.declared.variable.VarKind.{VarKind}
 use Rattle.pas_program.specs.declared.variable.VarKind.TheVariants as kind
 use Rattle.pas_program.specs.Checked.{tables}
-use Rattle.pas_program.specs.Tables.{Tables, is_kind, is_own, is_visible, is_around, holds_of, leads_within}
+use Rattle.pas_program.specs.Tables.{Tables, is_kind, is_own}
 use Rattle.pas_program.specs.Typed.{type_of_var}
 use Rattle.pas_program.specs.Types.{is_scalar}
 use Rattle.control_points.specs.declared.flow.Flow.{Flow}
 use Rattle.control_points.specs.Evaluation.{var_type}
 use Rattle.interp.specs.declared.frame.Extent.{Extent}
 use Rattle.interp.specs.declared.frame.Frame.{Frame}
-use Rattle.interp.specs.Deeds.{HasRoom, IsOwn}
+use Rattle.interp.specs.Deeds.{HasRoom}
 use Rattle.interp.specs.Layouts.{count_of, extent_before, extent_of}
 use Rattle.interp.specs.Machines.{AreFrames, AreLinks, end_of, routine_of}
 use Rattle.interp.proofs.Chains.{holds_some}
-use Rattle.interp.proofs.Lists.{same_some}
 use Rattle.interp.proofs.Numbers.{link_place}
 use Rattle.interp.proofs.Parts.{scalar_count}
 use Rattle.interp.proofs.Storage.{map_found, frame_within, scalars_within}

@@ -1,10 +1,10 @@
 -- The activation around one that is of a routine, step by step along the parents.
-use Rattle.std.proofs.Common.{◌≡◌, ℕ, zero, suc, ◌+◌, ◌<◌, ◌≤◌, Bool, true, false, cond, List, [], ◌∷◌, length, refl, sym, ap, ◌∙◌, subst, arith, Option, Some, None, nat_eq}
+use Rattle.std.proofs.Common.{◌≡◌, ℕ, suc, ◌<◌, Bool, true, false, cond, [], ◌∷◌, length, refl, sym, ap, ◌∙◌, arith, Some, nat_eq}
 use Rattle.std.specs.Option.{option_and_then}
-use Rattle.std.proofs.lemmas.Bool.{true≢false, eq-eqb, ne_eqb, eqb-true}
+use Rattle.std.proofs.lemmas.Bool.{eq-eqb, ne_eqb, eqb-true}
 use Rattle.std.proofs.lemmas.Option.{none-some}
 use Rattle.control_points.specs.Finding.{around, frame_at}
-use Rattle.control_points.specs.States.{Activation, Frame, Stack}
+use Rattle.control_points.specs.States.{Activation, Stack}
 use Rattle.interp.specs.Standing.{activation_at}
 use Rattle.interp.proofs.Lists.{same_some}
 

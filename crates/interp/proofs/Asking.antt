@@ -1,5 +1,5 @@
 -- What an action asks for leads the machine on: an effect to a point of the routine of the activation that goes on, and a call.
-use Rattle.std.proofs.Common.{◌≡◌, ℕ, zero, suc, ◌+◌, ◌-◌, ◌<◌, ◌≤◌, Bool, true, false, ◌&&◌, List, length, refl, sym, ap, ◌∙◌, subst, arith, Option, Some, None, nat_eq}
+use Rattle.std.proofs.Common.{◌≡◌, ℕ, zero, suc, ◌-◌, ◌<◌, true, List, length, refl, sym, ap, ◌∙◌, subst, arith, Option, Some, None}
 use Rattle.std.specs.Borrow.{Bor}
 use Rattle.std.specs.List.{slice_get}
 use Rattle.std.specs.Option.{option_map, option_and_then, unwrap_or}
@@ -13,18 +13,16 @@ use Rattle.control_points.specs.declared.edge.Act.{Act}
 use Rattle.control_points.specs.declared.edge.Act.TheVariants as act
 use Rattle.control_points.specs.declared.edge.Edge.{Edge}
 use Rattle.control_points.specs.declared.flow.Flow.{Flow}
-use Rattle.control_points.specs.declared.point.Point.{Point}
 use Rattle.control_points.specs.Fits.{callee_of, routine_at}
 use Rattle.control_points.specs.Leading.{EdgesLead, goes_on_after}
-use Rattle.interp.specs.declared.decide.Deed.{Deed}
 use Rattle.interp.specs.declared.decide.Deed.TheVariants as deed
 use Rattle.interp.specs.declared.decide.Effect.{Effect}
 use Rattle.interp.specs.declared.frame.Frame.{Frame}
 use Rattle.interp.specs.Calls.{IsCallOf}
-use Rattle.interp.specs.Deeds.{IsAsked, IsDeedOf, IsEffect, IsTheCall, LandsAt, top_call}
+use Rattle.interp.specs.Deeds.{IsAsked, IsEffect, LandsAt, top_call}
 use Rattle.interp.specs.Machines.{AreFrames, is_made_at, is_call_from, routine_of, top_of, top_point, top_routine}
 use Rattle.interp.proofs.Chains.{holds_some, routine_is, top_routine_is}
-use Rattle.interp.proofs.Lists.{some_at, same_some}
+use Rattle.interp.proofs.Lists.{some_at}
 use Rattle.interp.proofs.Storage.{Stands, frame_stands}
 
 -- the latest activation

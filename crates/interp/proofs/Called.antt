@@ -1,24 +1,20 @@
 -- The activations after a call.
-use Rattle.std.proofs.Common.{◌≡◌, ℕ, zero, suc, ◌+◌, ◌-◌, ◌<◌, ◌≤◌, Bool, true, false, ◌&&◌, ◌||◌, List, [], ◌∷◌, ◌++◌, map, length, take, set, refl, sym, ap, ◌∙◌, subst, arith, ℤ, Option, Some, None, inl, inr, ◌⊎◌, nat_eq}
-use Rattle.std.specs.List.{slice_get, sum_by}
-use Rattle.std.specs.Option.{option_map, option_and_then}
-use Rattle.std.proofs.lemmas.Bool.{true≢false, and_parts, eqb-true, eq-eqb}
+use Rattle.std.proofs.Common.{◌≡◌, ℕ, suc, ◌+◌, ◌<◌, Bool, true, false, ◌&&◌, ◌||◌, List, [], ◌∷◌, ◌++◌, map, length, refl, sym, ap, ◌∙◌, subst, arith, ℤ, Option, Some, None, inl, inr, nat_eq}
+use Rattle.std.specs.List.{slice_get}
+use Rattle.std.specs.Option.{option_map}
+use Rattle.std.proofs.lemmas.Bool.{true≢false, and_parts, eq-eqb}
 use Rattle.std.proofs.lemmas.Bool.Decides.{eqb_tells}
 use Rattle.std.proofs.lemmas.List.Sums.{sum_by_push}
 use Rattle.std.proofs.lemmas.Option.{none-some, slice_get_within}
 use Rattle.pas_program.specs.declared.expr.Actual.{Actual}
 use Rattle.pas_program.specs.declared.program.Program.{Program}
 use Rattle.pas_program.specs.declared.routine.Routine.{Routine}
-use Rattle.pas_program.specs.declared.variable.VarDef.{VarDef}
-use Rattle.pas_program.specs.declared.variable.VarKind.{VarKind}
-use Rattle.pas_program.specs.declared.variable.VarKind.TheVariants as kind
 use Rattle.pas_program.specs.Checked.{numbers_in, scope_in, tables}
 use Rattle.pas_program.specs.Each.{all_true, each_actual}
-use Rattle.pas_program.specs.Scopes.{contains, is_formal, is_the}
-use Rattle.pas_program.specs.Tables.{Head, Tables, head_of, holds_of, is_around, is_callable, is_kind}
-use Rattle.pas_program.specs.Typed.{are_passed_to, function_fits, passed, procedure_fits}
+use Rattle.pas_program.specs.Scopes.{contains, is_the}
+use Rattle.pas_program.specs.Tables.{Head, Tables, head_of, holds_of, is_around, is_callable}
+use Rattle.pas_program.specs.Typed.{function_fits, passed, procedure_fits}
 use Rattle.control_points.specs.Acts.{callee_fits, callee_passes, each_act, act_types_fit}
-use Rattle.control_points.specs.declared.edge.Act.TheVariants as act
 use Rattle.control_points.specs.declared.edge.Edge.{Edge}
 use Rattle.control_points.specs.declared.flow.Flow.{Flow}
 use Rattle.control_points.specs.Fits.{callee_of, routine_at}
@@ -26,14 +22,13 @@ use Rattle.interp.specs.declared.frame.Extent.{Extent}
 use Rattle.interp.specs.declared.frame.Frame.{Frame}
 use Rattle.interp.specs.Calls.{AreLinked, HasNew, IsCallOf, IsParent, are_passed}
 use Rattle.interp.specs.Deeds.{target_of}
-use Rattle.interp.specs.Layouts.{extent_of, extent_before, count_of}
-use Rattle.interp.specs.Machines.{AreFrames, AreLinks, AreScalars, end_of, is_made_at, is_call_from, routine_of, top_of, top_point, top_routine}
+use Rattle.interp.specs.Layouts.{extent_of, extent_before}
+use Rattle.interp.specs.Machines.{AreFrames, AreLinks, AreScalars, end_of, is_call_from, routine_of, top_of, top_routine}
 use Rattle.interp.proofs.Addresses.{within_frames}
-use Rattle.interp.proofs.Asking.{Onward, onward, top_is}
+use Rattle.interp.proofs.Asking.{onward, top_is}
 use Rattle.interp.proofs.Chains.{holds_some}
-use Rattle.interp.proofs.Frames.{IsNext, all_below, with_next}
+use Rattle.interp.proofs.Frames.{all_below, with_next}
 use Rattle.interp.proofs.Lists.{same_some, slice_get-snoc}
-use Rattle.interp.proofs.Numbers.{AreNumbers}
 
 -- what a call may rely on
 pub record CallFacts (flow : Flow) (frames : List Frame) (routine : ℕ) (actuals : List Actual) : Type 0 where

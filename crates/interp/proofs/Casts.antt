@@ -1,5 +1,5 @@
 -- A number of the language is the same after it was passed as bits.
-use Rattle.std.proofs.Common.{◌≡◌, ℕ, Bool, true, false, sym, subst, arith, ℤ, rules, Result, Ok}
+use Rattle.std.proofs.Common.{◌≡◌, ℕ, Bool, true, false, sym, subst, ℤ, rules, Result, Ok}
 use Rattle.std.proofs.lemmas.Int.{ints, to_z-of_z}
 use Rattle.std.specs.Int.{w32}
 use Rattle.px_base.specs.declared.kind.Kind.{Kind}

@@ -1,6 +1,5 @@
 -- What holds of an expression or an actual holds of its parts.
-use Rattle.std.proofs.Common.{◌≡◌, ℕ, ◌<◌, Bool, true, false, ◌&&◌, List, map, refl, sym, ap, ◌∙◌, Option, Some, None}
-use Rattle.std.specs.List.{slice_get}
+use Rattle.std.proofs.Common.{◌≡◌, ℕ, Bool, true, false, ◌&&◌, List, map, refl, sym, ap, ◌∙◌}
 use Rattle.std.proofs.lemmas.Bool.{true≢false, and_parts}
 use Rattle.px_base.specs.declared.operator.BinOp.{BinOp}
 use Rattle.pas_program.specs.declared.expr.Access.{Access}
@@ -13,9 +12,9 @@ use Rattle.pas_program.specs.declared.expr.ExprForm.{ExprForm}
 use Rattle.pas_program.specs.declared.variable.VarDef.{VarDef}
 use Rattle.pas_program.specs.declared.variable.VarKind.{VarKind}
 use Rattle.pas_program.specs.declared.variable.VarKind.TheVariants as kind
-use Rattle.pas_program.specs.Each.{Rule, actual_step, form_step, access_step, expr_step, all_true, each_access, each_actual, each_expr, each_form}
+use Rattle.pas_program.specs.Each.{Rule, actual_step, form_step, access_step, expr_step, each_access, each_actual, each_expr, each_form}
 use Rattle.pas_program.specs.Tables.{Tables, holds_of, is_kind}
-use Rattle.pas_program.specs.Typed.{Hosted, Passed, Reached, actual_type_step, form_type_step, access_type_step, expr_type_step, hosted, hosted_form, hosted_by, function_fits, is_passed_to, passed, reached, scalar, type_of_var}
+use Rattle.pas_program.specs.Typed.{Hosted, Passed, Reached, actual_type_step, form_type_step, access_type_step, expr_type_step, hosted, hosted_form, function_fits, is_passed_to, passed, reached, scalar, type_of_var}
 use Rattle.pas_program.specs.Types.{has_host, is_scalar}
 use Rattle.interp.proofs.Targets.{hosted_scalar}
 

@@ -1,18 +1,17 @@
 -- Activations with a new latest one: after a call, or where an earlier one goes on.
-use Rattle.std.proofs.Common.{◌≡◌, ℕ, zero, suc, ◌+◌, ◌-◌, ◌<◌, ◌≤◌, Bool, true, List, [], ◌∷◌, ◌++◌, length, take, refl, sym, ap, ◌∙◌, subst, arith, Option, Some, None, inl, inr, ◌⊎◌}
-use Rattle.std.specs.List.{slice_get, sum_by}
+use Rattle.std.proofs.Common.{◌≡◌, ℕ, zero, suc, ◌<◌, ◌≤◌, true, List, [], ◌∷◌, ◌++◌, length, take, refl, sym, ap, ◌∙◌, subst, arith, Option, Some, None, inl, inr}
+use Rattle.std.specs.List.{slice_get}
 use Rattle.std.specs.Option.{option_map, option_and_then}
-use Rattle.std.proofs.lemmas.List.{take-append-le, take_all, take-take, length-take-le}
-use Rattle.std.proofs.lemmas.Option.{none-some, slice_get_within}
+use Rattle.std.proofs.lemmas.List.{take-append-le, take_all, take-take}
+use Rattle.std.proofs.lemmas.Option.{none-some}
 use Rattle.std.proofs.Common.{length-append}
 use Rattle.pas_program.specs.Checked.{tables}
 use Rattle.pas_program.specs.Tables.{Head}
 use Rattle.control_points.specs.declared.flow.Flow.{Flow}
 use Rattle.control_points.specs.Fits.{routine_at}
-use Rattle.interp.specs.declared.frame.Extent.{Extent}
 use Rattle.interp.specs.declared.frame.Frame.{Frame}
 use Rattle.interp.specs.Machines.{AreFrames, end_of, routine_of, is_made_at}
-use Rattle.interp.proofs.Lists.{slice_get-take, slice_get-front, slice_get-last, slice_get-snoc}
+use Rattle.interp.proofs.Lists.{slice_get-take, slice_get-front, slice_get-snoc}
 
 -- the activations below some depth
 pub record AreBelow (flow : Flow) (frames : List Frame) : Type 0 where

@@ -1,7 +1,7 @@
 -- The storage that a formal has in a new activation.
-use Rattle.std.proofs.Common.{◌≡◌, ℕ, zero, suc, ◌+◌, ◌-◌, ◌<◌, ◌≤◌, Bool, true, false, List, length, take, set, refl, sym, ap, ◌∙◌, subst, arith, ℤ, Option, Some, None}
+use Rattle.std.proofs.Common.{◌≡◌, ℕ, ◌+◌, ◌<◌, ◌≤◌, true, false, List, length, set, refl, sym, ap, subst, arith, ℤ, Option, Some}
 use Rattle.std.proofs.Math.ListN.{length-set}
-use Rattle.std.specs.List.{slice_get, sum_by}
+use Rattle.std.specs.List.{slice_get}
 use Rattle.std.proofs.lemmas.List.Sums.{sum_by-take-le}
 use Rattle.arithmetic.specs.Numbers.{IsNumber}
 use Rattle.pas_program.specs.declared.program.Program.{Program}
@@ -9,14 +9,13 @@ use Rattle.pas_program.specs.declared.variable.VarDef.{VarDef}
 use Rattle.pas_program.specs.declared.variable.VarKind.TheVariants as kind
 use Rattle.pas_program.specs.Tables.{is_kind}
 use Rattle.control_points.specs.declared.flow.Flow.{Flow}
-use Rattle.interp.specs.declared.call.Argument.{Argument}
 use Rattle.interp.specs.declared.call.Argument.TheVariants as argument
 use Rattle.interp.specs.declared.decide.Change.TheVariants as change
 use Rattle.interp.specs.declared.frame.Extent.{Extent}
 use Rattle.interp.specs.declared.frame.Frame.{Frame}
-use Rattle.interp.specs.Calls.{HasNew, HasNewFor, IsArgument, IsGiven}
-use Rattle.interp.specs.Deeds.{FitsIn, IsContent, changed}
-use Rattle.interp.specs.Layouts.{count_of, extent_before, extent_of, links_of, need_in, scalars_of}
+use Rattle.interp.specs.Calls.{HasNew, HasNewFor, IsArgument}
+use Rattle.interp.specs.Deeds.{changed}
+use Rattle.interp.specs.Layouts.{count_of, extent_before, links_of, need_in, scalars_of}
 use Rattle.interp.specs.Machines.{AreFrames, AreLinks, AreScalars, end_of}
 use Rattle.interp.proofs.Laying.{slice_get-set_other}
 use Rattle.interp.proofs.Lists.{some_at}
@@ -42,7 +41,11 @@ giving p frames formal base off links scalars h b r o =
     let s = sum_by-take-le (need_in x.routine (scalars_of p.types)) p.vars formal in
     let l = sum_by-take-le (need_in x.routine links_of) p.vars formal in
     record {
-      var = x; known = w.1; there = b; before = f; room = n;
+      var = x;
+      known = w.1;
+      there = b;
+      before = f;
+      room = n;
       low = omega (arith, s, n.scalars_room, ap (λ (y : Extent). y.scalars) b, ap (λ (y : Extent). y.scalars) f);
       low_links = omega (arith, l, n.links_room, ap (λ (y : Extent). y.links) b, ap (λ (y : Extent). y.links) f);
     }

@@ -3,8 +3,8 @@ use Rattle.std.proofs.Common.{◌≡◌, ℕ, zero, suc, ◌+◌, ◌*◌, ◌-�
 use Rattle.std.specs.List.{filter, list_all}
 use Rattle.std.proofs.lemmas.Bool.{true≢false, and_parts, leb-true, ne_eqb, lt-leb}
 use Rattle.control_points.specs.declared.item.Item.{Item}
-use Rattle.control_points.specs.declared.item.Item.TheVariants.{Number, LineEnd, Junk}
-use Rattle.interp.specs.InputItems.{in_front, parts, is_line_feed, is_between, is_blank, is_word, words, word_item, joined, line_items, items_of, decimal_value, is_digit, magnitude, number_item, signed}
+use Rattle.control_points.specs.declared.item.Item.TheVariants.{LineEnd}
+use Rattle.interp.specs.InputItems.{in_front, parts, is_line_feed, is_between, is_blank, is_word, word_item, joined, line_items, items_of, decimal_value, is_digit, magnitude, number_item, signed}
 use Rattle.control_points.specs.Runs.{IsInput, IsInputItem}
 use Rattle.std.specs.List.{position_or_len, prefix_len}
 use Rattle.std.specs.Prelude.{not, nat_le}

@@ -1,11 +1,9 @@
 -- The activations after an effect: one that was there goes on at another point, and those above it have ended.
-use Rattle.std.proofs.Common.{◌≡◌, ℕ, zero, suc, ◌+◌, ◌-◌, ◌<◌, ◌≤◌, Bool, true, List, [], ◌∷◌, ◌++◌, length, take, set, refl, sym, ap, ◌∙◌, subst, arith, ℤ, Option, Some, None, inl, inr, ◌⊎◌}
-use Rattle.std.specs.List.{slice_get, sum_by}
-use Rattle.std.specs.Option.{option_map, option_and_then}
+use Rattle.std.proofs.Common.{◌≡◌, ℕ, zero, suc, ◌+◌, ◌<◌, ◌≤◌, List, [], ◌∷◌, ◌++◌, length, take, set, refl, sym, ap, ◌∙◌, arith, ℤ, Option, Some, inl, inr}
+use Rattle.std.specs.List.{slice_get}
 use Rattle.std.proofs.lemmas.List.{length-take-le}
 use Rattle.std.proofs.lemmas.List.Sums.{sum_by_push}
-use Rattle.std.proofs.lemmas.Option.{none-some, slice_get_within}
-use Rattle.pas_program.specs.Checked.{tables}
+use Rattle.std.proofs.lemmas.Option.{slice_get_within}
 use Rattle.control_points.specs.declared.flow.Flow.{Flow}
 use Rattle.control_points.specs.Fits.{routine_at}
 use Rattle.interp.specs.declared.frame.Extent.{Extent}
@@ -13,8 +11,8 @@ use Rattle.interp.specs.declared.frame.Frame.{Frame}
 use Rattle.interp.specs.Layouts.{extent_of, extent_before}
 use Rattle.interp.specs.Machines.{AreFrames, AreLinks, AreScalars, end_of, routine_of}
 use Rattle.interp.proofs.Chains.{routine_is}
-use Rattle.interp.proofs.Frames.{AreBelow, IsNext, all_below, some_below, in_prefix, parents_same, with_next}
-use Rattle.interp.proofs.Lists.{same_some, slice_get-snoc, slice_get-take, sum_before}
+use Rattle.interp.proofs.Frames.{IsNext, all_below, some_below, in_prefix, parents_same, with_next}
+use Rattle.interp.proofs.Lists.{slice_get-snoc, slice_get-take, sum_before}
 use Rattle.interp.proofs.Numbers.{AreNumbers}
 
 -- a write to the last element of a prefix

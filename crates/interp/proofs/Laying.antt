@@ -1,5 +1,5 @@
 -- The tables of a program's storage, as they are filled.
-use Rattle.std.proofs.Common.{◌≡◌, ℕ, zero, suc, ◌+◌, ◌*◌, ◌<◌, ◌≤◌, cond, List, [], ◌∷◌, ◌++◌, length, take, set, get_or, refl, sym, ap, ◌∙◌, subst, arith, Option, Some, None, inl, inr, nat_eq, true, false}
+use Rattle.std.proofs.Common.{◌≡◌, ℕ, zero, suc, ◌+◌, ◌<◌, ◌≤◌, cond, List, [], ◌∷◌, ◌++◌, length, take, set, get_or, refl, sym, ap, ◌∙◌, subst, arith, Some, inl, inr, nat_eq, true, false}
 use Rattle.std.proofs.Common.{length-append}
 use Rattle.std.proofs.Math.ListN.{length-set}
 use Rattle.std.specs.List.{slice_get, sum_by}
@@ -7,13 +7,13 @@ use Rattle.std.proofs.lemmas.List.{take_all}
 use Rattle.std.proofs.lemmas.List.Sums.{sum_by_more}
 use Rattle.std.proofs.lemmas.Bool.{eq-eqb, ne_eqb}
 use Rattle.std.proofs.lemmas.Bool.Decides.{eqb_tells}
-use Rattle.std.proofs.lemmas.Option.{none-some, slice_get_within, slice_get-get_or, get_or_from_slice_get}
+use Rattle.std.proofs.lemmas.Option.{slice_get_within, slice_get-get_or, get_or_from_slice_get}
 use Rattle.pas_program.specs.declared.program.Program.{Program}
 use Rattle.pas_program.specs.declared.type_def.TypeDef.{TypeDef}
 use Rattle.pas_program.specs.declared.variable.VarDef.{VarDef}
 use Rattle.pas_program.specs.Types.{layout}
 use Rattle.interp.specs.declared.frame.Extent.{Extent}
-use Rattle.interp.specs.Layouts.{AreCounts, count_of, extent_before, extent_of, need_in, scalars_of, links_of, storage}
+use Rattle.interp.specs.Layouts.{AreCounts, extent_before, extent_of, need_in, scalars_of, links_of, storage}
 use Rattle.interp.proofs.Lists.{same_some, slice_get-front, slice_get-last, sum_before}
 use Rattle.interp.proofs.Storage.{need_own}
 
@@ -118,13 +118,15 @@ offset_is p offsets extents n d off h r e = slice_get-get_or extents d.routine o
 pub offset_fits : (p : Program) (offsets extents : List Extent) (n : ℕ) (d : VarDef) (off need : Extent) → LaidSoFar p offsets extents n → slice_get p.vars n ≡ Some d → d.routine < length p.routines → slice_get extents d.routine ≡ Some off
     → need.scalars ≡ scalars_of p.types d → need.links ≡ links_of d → (off.scalars + need.scalars ≤ (extent_of p d.routine).scalars) × (off.links + need.links ≤ (extent_of p d.routine).links)
 offset_fits p offsets extents n d off need h e r o s l =
-    let is : off ≡ storage p.types d.routine (take n p.vars) = same_some _ _ (sym o ∙ h.needed d.routine r) in
-    (omega (arith, sum_before (need_in d.routine (scalars_of p.types)) p.vars n d e, need_own d.routine (scalars_of p.types) d refl, s, ap (λ (x : Extent). x.scalars) is),
-    omega (arith, sum_before (need_in d.routine links_of) p.vars n d e, need_own d.routine links_of d refl, l, ap (λ (x : Extent). x.links) is))
+    let is : off ≡ storage p.types d.routine (take n p.vars) = same_some _ _ (sym o ∙ h.needed d.routine r) in (
+      omega (arith, sum_before (need_in d.routine (scalars_of p.types)) p.vars n d e, need_own d.routine (scalars_of p.types) d refl, s, ap (λ (x : Extent). x.scalars) is),
+      omega (arith, sum_before (need_in d.routine links_of) p.vars n d e, need_own d.routine links_of d refl, l, ap (λ (x : Extent). x.links) is),
+    )
 
 -- all variables are laid
 pub laid_all : (p : Program) (counts : List ℕ) (offsets extents : List Extent) (n : ℕ) → AreCounts p.types counts (length p.types) → LaidSoFar p offsets extents n → length p.vars ≤ n
     → ((v : ℕ) (d : VarDef) → slice_get p.vars v ≡ Some d → slice_get offsets v ≡ Some (extent_before p d.routine v)) × ((r : ℕ) → r < length p.routines → slice_get extents r ≡ Some (extent_of p r))
-laid_all p counts offsets extents n c h l =
-    (λ v d e. h.placed v d (let w = slice_get_within p.vars v d e in omega arith) e,
-    λ r k. h.needed r k ∙ ap (λ vars. Some (storage p.types r vars)) (take_all n p.vars l))
+laid_all p counts offsets extents n c h l = (
+  λ v d e. h.placed v d (let w = slice_get_within p.vars v d e in omega arith) e,
+  λ r k. h.needed r k ∙ ap (λ vars. Some (storage p.types r vars)) (take_all n p.vars l),
+)

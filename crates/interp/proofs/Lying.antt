@@ -1,23 +1,21 @@
 -- Where places lie: parts lie within their variable, and what lies within a variable is a part of it.
-use Rattle.std.proofs.Common.{◌≡◌, ℕ, suc, ◌+◌, ◌*◌, ◌-◌, ◌<◌, ◌≤◌, Bool, true, false, cond, List, [], ◌∷◌, ◌++◌, length, take, refl, sym, ap, ◌∙◌, subst, arith, ℤ, Option, Some, None, nat_eq}
-use Rattle.std.specs.List.{slice_get, sum_by}
-use Rattle.std.proofs.lemmas.Bool.{eq-eqb, ltb-true, and_parts}
-use Rattle.std.proofs.lemmas.Option.{slice_get_within}
+use Rattle.std.proofs.Common.{◌≡◌, ℕ, ◌+◌, ◌<◌, ◌≤◌, true, false, cond, List, length, refl, sym, ap, ◌∙◌, arith, ℤ, Some}
+use Rattle.std.specs.List.{slice_get}
+use Rattle.std.proofs.lemmas.Bool.{ltb-true, and_parts}
 use Rattle.pas_program.specs.declared.program.Program.{Program}
 use Rattle.pas_program.specs.declared.variable.VarDef.{VarDef}
 use Rattle.pas_program.specs.declared.variable.VarKind.TheVariants as kind
 use Rattle.pas_program.specs.Tables.{is_kind}
 use Rattle.pas_program.specs.Types.{is_scalar}
-use Rattle.pas_program.specs.Valid.{counts_of, var_in_range}
 use Rattle.control_points.specs.declared.flow.Flow.{Flow}
 use Rattle.control_points.specs.Storage.{Place, whole, part}
 use Rattle.interp.specs.declared.frame.Extent.{Extent}
 use Rattle.interp.specs.declared.frame.Frame.{Frame}
 use Rattle.interp.specs.Layouts.{scalars_of, need_in, extent_of, extent_before, count_of}
 use Rattle.interp.specs.Machines.{AreFrames, end_of}
-use Rattle.interp.specs.Places.{Part, Lies, further, part_of}
+use Rattle.interp.specs.Places.{Part, Lies, part_of}
 use Rattle.interp.proofs.Lists.{sum_between, same_some}
-use Rattle.interp.proofs.Parts.{Beyond, beyond, part_of-append, part_inside, scalar_count}
+use Rattle.interp.proofs.Parts.{beyond, part_of-append, part_inside, scalar_count}
 use Rattle.interp.proofs.Storage.{frame_within, scalars_within, need_own}
 
 -- a variable itself

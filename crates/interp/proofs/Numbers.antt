@@ -1,9 +1,9 @@
 -- What is stored stays numbers, and what is linked stays below, through each change.
-use Rattle.std.proofs.Common.{◌≡◌, ℕ, zero, suc, ◌+◌, ◌-◌, ◌<◌, ◌≤◌, Bool, true, false, List, [], ◌∷◌, ◌++◌, length, take, drop, set, replicate, refl, sym, ap, ◌∙◌, subst, arith, ℤ, Option, Some, None, inl, inr, ◌⊎◌}
+use Rattle.std.proofs.Common.{◌≡◌, ℕ, zero, suc, ◌+◌, ◌<◌, ◌≤◌, true, List, [], ◌∷◌, ◌++◌, length, take, drop, set, replicate, refl, sym, ap, ◌∙◌, subst, arith, ℤ, Option, Some, None, inl, inr, ◌⊎◌}
 use Rattle.std.proofs.Common.{length-append, length-drop, length-take}
 use Rattle.std.proofs.Math.ListN.{length-set}
 use Rattle.std.specs.List.{slice_get}
-use Rattle.std.proofs.lemmas.Option.{none-some, slice_get_within}
+use Rattle.std.proofs.lemmas.Option.{none-some}
 use Rattle.arithmetic.specs.Numbers.{IsNumber}
 use Rattle.pas_program.specs.declared.program.Program.{Program}
 use Rattle.pas_program.specs.declared.variable.VarDef.{VarDef}
@@ -14,7 +14,7 @@ use Rattle.interp.specs.declared.decide.Change.{Change}
 use Rattle.interp.specs.declared.decide.Change.TheVariants as change
 use Rattle.interp.specs.declared.frame.Frame.{Frame}
 use Rattle.interp.specs.Deeds.{IsContent, IsChange, changed}
-use Rattle.interp.specs.Layouts.{count_of, extent_before, extent_of}
+use Rattle.interp.specs.Layouts.{extent_before, extent_of}
 use Rattle.interp.specs.Machines.{AreFrames, AreLinks, AreScalars, end_of}
 use Rattle.interp.proofs.Lists.{same_some, slice_get-front, slice_get-take}
 use Rattle.interp.proofs.Storage.{frame_within, links_within}
@@ -130,5 +130,5 @@ pub links_more : (flow : Flow) (frames : List Frame) (xs new : List ℕ) (n k : 
 links_more flow frames xs new n k h l e f =
     let r = l.room in
     links_kept flow frames xs new h l
-        (let m = ap length f in let a = length-append (take n xs) (replicate k 0) in let t = length-take n xs in omega arith)
-        (λ i b. ap (λ ys. slice_get ys i) f ∙ resized_same xs n k i 0 (omega arith) (omega arith))
+    (let m = ap length f in let a = length-append (take n xs) (replicate k 0) in let t = length-take n xs in omega arith)
+    (λ i b. ap (λ ys. slice_get ys i) f ∙ resized_same xs n k i 0 (omega arith) (omega arith))

@@ -1,17 +1,17 @@
 -- The parts of a variable: they lie within it, and what lies within one is reached by further subscripts.
-use Rattle.std.proofs.Common.{◌≡◌, ℕ, zero, suc, ◌+◌, ◌*◌, ◌<◌, ◌≤◌, Bool, true, false, ◌&&◌, cond, List, [], ◌∷◌, ◌++◌, length, refl, sym, ap, ◌∙◌, subst, arith, ℤ, Option, Some, None}
+use Rattle.std.proofs.Common.{◌≡◌, ℕ, suc, ◌+◌, ◌*◌, ◌<◌, ◌≤◌, Bool, true, false, cond, List, [], ◌∷◌, ◌++◌, length, refl, sym, ap, ◌∙◌, subst, arith, ℤ, Option, Some, None}
 use Rattle.std.specs.List.{slice_get}
 use Rattle.std.specs.Option.{option_map}
-use Rattle.std.specs.Prelude.{int_le, ◌-ℤ◌, unsigned_abs}
+use Rattle.std.specs.Prelude.{int_le}
 use Rattle.std.proofs.Math.Nat.{mul-le-mul_left}
 use Rattle.std.proofs.lemmas.Bool.{true≢false, and_parts}
 use Rattle.std.proofs.lemmas.Int.{ints}
-use Rattle.std.proofs.lemmas.Option.{none-some, slice_get_within}
+use Rattle.std.proofs.lemmas.Option.{none-some}
 use Rattle.pas_program.specs.declared.program.Program.{Program}
 use Rattle.pas_program.specs.declared.type_def.TypeDef.{TypeDef}
 use Rattle.pas_program.specs.declared.type_def.TypeDef.TheVariants.{Scalar, Array}
-use Rattle.pas_program.specs.Types.{TypesFit, count_values, is_scalar, layout}
-use Rattle.pas_program.proofs.Layouts.{array_fits, layout-Array, layout-Scalar, layout_some}
+use Rattle.pas_program.specs.Types.{count_values, is_scalar}
+use Rattle.pas_program.proofs.Layouts.{array_fits, layout-Array, layout-Scalar}
 use Rattle.control_points.specs.Evaluation.{is_value_of}
 use Rattle.interp.specs.Layouts.{count_of}
 use Rattle.interp.specs.Places.{Part, ordinal, further, part_in, part_of}

@@ -1,7 +1,7 @@
 -- The actuals of a call, one after another.
-use Rattle.std.proofs.Common.{◌≡◌, ℕ, zero, suc, ◌+◌, ◌-◌, ◌<◌, ◌≤◌, Bool, true, false, ◌&&◌, ◌||◌, List, [], ◌∷◌, ◌++◌, map, length, set, refl, sym, ap, ◌∙◌, subst, arith, get_or, ℤ, Option, Some, None, cond, inl, inr, nat_eq}
+use Rattle.std.proofs.Common.{◌≡◌, ℕ, zero, suc, ◌+◌, ◌<◌, ◌≤◌, Bool, true, false, ◌&&◌, ◌||◌, List, [], ◌∷◌, map, length, set, refl, sym, ap, ◌∙◌, subst, arith, get_or, ℤ, Option, Some, cond, inl, inr, nat_eq}
 use Rattle.std.proofs.Math.ListN.{length-set}
-use Rattle.std.specs.List.{slice_get, sum_by, slice_set}
+use Rattle.std.specs.List.{slice_get}
 use Rattle.std.specs.Option.{option_map}
 use Rattle.std.proofs.lemmas.Bool.{true≢false, and_parts, eqb-true, eq-eqb}
 use Rattle.std.proofs.lemmas.Bool.Decides.{eqb_tells}
@@ -15,12 +15,12 @@ use Rattle.pas_program.specs.declared.variable.VarKind.TheVariants as kind
 use Rattle.pas_program.specs.Scopes.{contains, is_formal}
 use Rattle.pas_program.specs.Checked.{tables}
 use Rattle.pas_program.specs.Tables.{Tables, head_of, holds_of, is_kind}
-use Rattle.pas_program.specs.Typed.{Passed, are_passed_to, is_passed_to, passed}
+use Rattle.pas_program.specs.Typed.{are_passed_to, is_passed_to, passed}
 use Rattle.interp.specs.declared.call.Argument.{Argument}
 use Rattle.interp.specs.declared.call.Argument.TheVariants as argument
 use Rattle.interp.specs.declared.frame.Frame.{Frame}
 use Rattle.control_points.specs.declared.flow.Flow.{Flow}
-use Rattle.interp.specs.Calls.{AreLinked, HasNew, IsArgument, IsGiven, IsGivenLink, are_passed}
+use Rattle.interp.specs.Calls.{AreLinked, HasNew, IsGiven, IsGivenLink, are_passed}
 use Rattle.interp.specs.Layouts.{links_of, need_in, extent_before, count_of}
 use Rattle.interp.specs.Machines.{end_of}
 use Rattle.interp.proofs.Called.{contained}

@@ -1,40 +1,34 @@
 -- The program's block at its entry.
 use Rattle.std.proofs.Common.{◌≡◌, ℕ, zero, suc, ◌+◌, ◌-◌, ◌<◌, ◌≤◌, Bool, true, false, ◌&&◌, cond, List, [], ◌∷◌, ◌++◌, length, get_or, take, replicate, refl, sym, ap, ◌∙◌, subst, arith, ℤ, Option, Some, None, nat_eq, nat_lt, inl, inr}
-use Rattle.std.specs.List.{slice_get, position, position_or_len, All}
-use Rattle.std.specs.Option.{option_map, option_and_then, unwrap_or}
+use Rattle.std.specs.List.{slice_get, position}
+use Rattle.std.specs.Option.{option_map, unwrap_or}
 use Rattle.std.proofs.lemmas.Bool.{true≢false, and_parts, eqb-true, eq-eqb, ltb-true, lt-ltb, le-ltb}
 use Rattle.std.proofs.lemmas.Bool.Decides.{eqb_tells}
 use Rattle.std.proofs.lemmas.List.{length-replicate}
 use Rattle.std.proofs.lemmas.List.Sums.{position_or_len_is, sum_by_push}
-use Rattle.std.proofs.lemmas.Option.{none-some, slice_get_within, slice_get-get_or, slice_get_past, get_or_from_slice_get}
-use Rattle.arithmetic.specs.Numbers.{IsNumber}
+use Rattle.std.proofs.lemmas.Option.{none-some, slice_get_within, slice_get-get_or, get_or_from_slice_get}
 use Rattle.pas_program.specs.declared.program.Program.{Program}
 use Rattle.pas_program.specs.declared.routine.Routine.{Routine}
 use Rattle.pas_program.specs.declared.variable.VarDef.{VarDef}
 use Rattle.pas_program.specs.declared.variable.VarKind.{VarKind}
 use Rattle.pas_program.specs.declared.variable.VarKind.TheVariants as kind
-use Rattle.pas_program.specs.Checked.{tables}
-use Rattle.pas_program.specs.Scopes.{contains, parent_fits, is_formal, is_the}
-use Rattle.pas_program.specs.Tables.{Head, head_of, holds_of, is_kind}
+use Rattle.pas_program.specs.Scopes.{contains, parent_fits, is_formal}
+use Rattle.pas_program.specs.Tables.{Head, head_of, is_kind}
 use Rattle.control_points.specs.declared.flow.Flow.{Flow}
 use Rattle.control_points.specs.declared.item.Item.{Item}
-use Rattle.control_points.specs.declared.item.Item.TheVariants.{Number, LineEnd, Junk}
+use Rattle.control_points.specs.declared.item.Item.TheVariants.{Number, LineEnd}
 use Rattle.control_points.specs.declared.point.Point.{Point}
 use Rattle.control_points.specs.declared.point.PointKind.TheVariants as point_kind
 use Rattle.control_points.specs.Chart.{entry_of, is_entry}
 use Rattle.control_points.specs.Fits.{routine_at}
 use Rattle.control_points.specs.Runs.{IsInput, IsInputItem}
-use Rattle.interp.specs.declared.frame.Extent.{Extent}
 use Rattle.interp.specs.declared.frame.Frame.{Frame}
-use Rattle.interp.specs.Deeds.{IsOwn}
-use Rattle.interp.specs.Layouts.{extent_of, extent_before, count_of}
-use Rattle.interp.specs.Machines.{AreFrames, AreItems, AreLinks, AreScalars, end_of, routine_of}
-use Rattle.interp.proofs.Addresses.{result_not_var}
+use Rattle.interp.specs.Layouts.{extent_of}
+use Rattle.interp.specs.Machines.{AreFrames, AreItems, AreLinks, AreScalars}
 use Rattle.interp.proofs.Chains.{holds_some}
-use Rattle.interp.proofs.Frames.{AreBelow, IsNext, with_next}
+use Rattle.interp.proofs.Frames.{AreBelow, with_next}
 use Rattle.interp.proofs.Lists.{same_some}
 use Rattle.interp.proofs.Numbers.{AreNumbers, numbers_none}
-use Rattle.interp.proofs.Storage.{map_found}
 
 -- ---- the first element that passes
 

@@ -2,7 +2,7 @@
 use Rattle.std.proofs.Common.{◌≡◌, ℕ, suc, ◌+◌, ◌*◌, ◌-◌, ◌<◌, ◌≤◌, Bool, true, false, cond, List, [], ◌∷◌, length, take, refl, sym, ap, ◌∙◌, subst, arith, Option, Some, None, nat_eq}
 use Rattle.std.specs.List.{slice_get, sum_by}
 use Rattle.std.specs.Option.{option_map}
-use Rattle.std.proofs.lemmas.Bool.{true≢false, eq-eqb}
+use Rattle.std.proofs.lemmas.Bool.{eq-eqb}
 use Rattle.std.proofs.lemmas.List.{take_all}
 use Rattle.std.proofs.lemmas.List.Sums.{sum_by_more, sum_by-cons}
 use Rattle.std.proofs.lemmas.Option.{none-some, slice_get_within, get_or_from_slice_get}
@@ -13,12 +13,11 @@ use Rattle.pas_program.specs.Tables.{is_kind}
 use Rattle.pas_program.proofs.Layouts.{layout_few}
 use Rattle.control_points.specs.declared.flow.Flow.{Flow}
 use Rattle.control_points.specs.declared.point.Point.{Point}
-use Rattle.control_points.specs.Fits.{routine_at}
 use Rattle.interp.specs.declared.frame.Extent.{Extent}
 use Rattle.interp.specs.declared.frame.Frame.{Frame}
 use Rattle.interp.specs.Layouts.{scalars_of, links_of, need_in, extent_of, extent_before, count_of}
 use Rattle.interp.specs.Machines.{AreFrames, end_of}
-use Rattle.interp.proofs.Lists.{sum_before, sum_between}
+use Rattle.interp.proofs.Lists.{sum_before}
 
 pub need_own : (r : ℕ) (need : VarDef → ℕ) (d : VarDef) → d.routine ≡ r → need_in r need d ≡ need d
 need_own r need d e = ap (λ b. cond b (need d) 0) (eq-eqb d.routine r e)

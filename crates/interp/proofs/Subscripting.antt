@@ -1,27 +1,24 @@
 -- A subscript at an array: the types fit, and the element lies within it.
-use Rattle.std.proofs.Common.{◌≡◌, ℕ, zero, suc, ◌+◌, ◌*◌, ◌-◌, ◌<◌, ◌≤◌, Bool, true, false, ◌&&◌, cond, List, [], ◌∷◌, length, map, drop, get_or, refl, sym, ap, ◌∙◌, subst, arith, ℤ, Option, Some, None, Result, Ok, Err}
-use Rattle.std.proofs.Common.{drop-cons, add-one}
+use Rattle.std.proofs.Common.{◌≡◌, ℕ, suc, ◌+◌, ◌*◌, ◌<◌, ◌≤◌, Bool, true, false, ◌&&◌, cond, List, ◌∷◌, length, map, drop, get_or, refl, sym, ap, ◌∙◌, subst, arith, ℤ, Option, Some, None, Result, Ok, Err}
+use Rattle.std.proofs.Common.{drop-cons}
 use Rattle.std.specs.List.{slice_get}
-use Rattle.std.proofs.Math.Nat.{mul-le-mul_left}
 use Rattle.std.proofs.lemmas.Bool.{true≢false, and_parts}
-use Rattle.std.proofs.lemmas.List.{drop_all}
 use Rattle.pas_program.specs.declared.expr.Expr.{Expr}
 use Rattle.pas_program.specs.declared.program.Program.{Program}
 use Rattle.pas_program.specs.declared.type_def.TypeDef.{TypeDef}
 use Rattle.pas_program.specs.declared.type_def.TypeDef.TheVariants.{Scalar, Array}
 use Rattle.pas_program.specs.Checked.{tables}
 use Rattle.pas_program.specs.Tables.{Tables}
-use Rattle.pas_program.specs.Typed.{Hosted, Reached, element_of, hosted, subscripted}
-use Rattle.pas_program.specs.Types.{count_values, has_host, layout}
+use Rattle.pas_program.specs.Typed.{Hosted, element_of, hosted, subscripted}
+use Rattle.pas_program.specs.Types.{count_values, has_host}
 use Rattle.pas_program.proofs.Layouts.{array_fits, layout_few}
 use Rattle.control_points.specs.declared.fault.Fault.{Fault}
 use Rattle.control_points.specs.Evaluation.{is_value_of}
 use Rattle.interp.specs.declared.frame.Frame.{Frame}
 use Rattle.interp.specs.Deeds.{HasRoom}
 use Rattle.interp.specs.Layouts.{count_of}
-use Rattle.interp.specs.Machines.{end_of}
 use Rattle.interp.specs.Places.{ordinal, place_in}
-use Rattle.interp.proofs.Parts.{array_count, ordinal_below, same_array, within_array}
+use Rattle.interp.proofs.Parts.{array_count, ordinal_below, within_array}
 
 -- the subscripts from a place on
 pub rest_at : {A : Type 0} (xs : List A) (i : ℕ) (x : A) → i < length xs → x ≡ get_or xs i x → drop i xs ≡ x ∷ drop (i + 1) xs
@@ -42,7 +39,11 @@ leading_by t n s rest (Some (Scalar boolean lo hi)) e h = absurd (true≢false (
 leading_by t n s rest (Some (Array index element)) e h =
     let p = and_parts (s.fits && has_host s.boolean (t.type_at index)) _ h in
     record {
-      index = index; element = element; array = e; subscript = (and_parts _ _ p.0).0; fits = p.1;
+      index = index;
+      element = element;
+      array = e;
+      subscript = (and_parts _ _ p.0).0;
+      fits = p.1;
       same = ap (λ d. (element_of t s (λ e. subscripted t e rest) d).of_type) e;
     }
 
@@ -54,7 +55,7 @@ pub leading_at : (p : Program) (n i : ℕ) (e : Expr) (subscripts : List Expr) �
     → (subscripted (tables p) n (map (hosted (tables p)) (drop i subscripts))).fits ≡ true → Leading (tables p) n (hosted (tables p) e) (map (hosted (tables p)) (drop (i + 1) subscripts))
 leading_at p n i e subscripts h k f =
     leading (tables p) n (hosted (tables p) e) (map (hosted (tables p)) (drop (i + 1) subscripts))
-        (subst (λ xs. (subscripted (tables p) n (map (hosted (tables p)) xs)).fits ≡ true) (rest_at subscripts i e h k) f)
+    (subst (λ xs. (subscripted (tables p) n (map (hosted (tables p)) xs)).fits ≡ true) (rest_at subscripts i e h k) f)
 
 pub leads_same : (p : Program) (n i : ℕ) (e : Expr) (subscripts : List Expr) → i < length subscripts → e ≡ get_or subscripts i e
     → (subscripted (tables p) n (map (hosted (tables p)) (drop i subscripts))).of_type ≡ (subscripted (tables p) n (hosted (tables p) e ∷ map (hosted (tables p)) (drop (i + 1) subscripts))).of_type

@@ -1,10 +1,10 @@
 -- What an action may rely on of the places that it writes.
-use Rattle.std.proofs.Common.{◌≡◌, ℕ, zero, suc, ◌+◌, ◌-◌, ◌<◌, ◌≤◌, Bool, true, false, ◌&&◌, ◌||◌, List, [], ◌∷◌, length, get_or, refl, sym, ap, ◌∙◌, subst, arith, ℤ, Option, Some, None, nat_eq, nat_lt}
+use Rattle.std.proofs.Common.{◌≡◌, ℕ, zero, suc, ◌-◌, ◌<◌, Bool, true, ◌&&◌, ◌||◌, List, [], ◌∷◌, length, refl, sym, ap, ◌∙◌, subst, arith, Option, Some, None, nat_eq, nat_lt}
 use Rattle.std.specs.List.{slice_get}
 use Rattle.std.specs.Option.{option_map, option_and_then, unwrap_or}
 use Rattle.std.specs.Prelude.{IfSome}
 use Rattle.std.proofs.lemmas.Bool.{true≢false, and_parts, ltb-true, eqb-true, eq-eqb}
-use Rattle.std.proofs.lemmas.Option.{none-some, slice_get_within}
+use Rattle.std.proofs.lemmas.Option.{none-some}
 use Rattle.arithmetic.specs.Numbers.{IsNumber}
 use Rattle.pas_program.specs.declared.expr.Actual.{Actual}
 use Rattle.pas_program.specs.declared.program.Program.{Program}
@@ -17,11 +17,11 @@ use Rattle.pas_program.specs.declared.variable.VarKind.TheVariants as kind
 use Rattle.pas_program.specs.Checked.{numbers_in, scope_in, tables}
 use Rattle.pas_program.specs.Each.{true_if_some}
 use Rattle.pas_program.specs.Scopes.{is_the}
-use Rattle.pas_program.specs.Tables.{Head, Tables, head_of, holds_of, is_around, is_kind, is_own, is_visible, leads_within}
-use Rattle.pas_program.specs.Typed.{Hosted, Reached, hosted_by, is_target, function_fits, passed, type_of_var}
+use Rattle.pas_program.specs.Tables.{Head, head_of, holds_of, is_around, is_kind, is_own, is_visible, leads_within}
+use Rattle.pas_program.specs.Typed.{Reached, hosted_by, is_target}
 use Rattle.pas_program.specs.Types.{has_host, is_scalar}
 use Rattle.pas_program.proofs.Layouts.{layout_some}
-use Rattle.control_points.specs.Acts.{each_act, act_types_fit}
+use Rattle.control_points.specs.Acts.{each_act}
 use Rattle.control_points.specs.declared.edge.Act.{Act}
 use Rattle.control_points.specs.declared.edge.Act.TheVariants as act
 use Rattle.control_points.specs.declared.edge.Edge.{Edge}
@@ -35,13 +35,12 @@ use Rattle.interp.specs.declared.frame.Frame.{Frame}
 use Rattle.interp.specs.Deeds.{HasRoom, IsOwn, top_call}
 use Rattle.interp.specs.Layouts.{count_of}
 use Rattle.interp.specs.Machines.{AreFrames, AreItems, end_of, top_of, top_point, top_routine}
-use Rattle.interp.proofs.Addresses.{Owned, owned, result_not_var, slot_not_var, var_type_is}
-use Rattle.interp.proofs.Asking.{Made, made_by, top_is}
-use Rattle.interp.proofs.Chains.{holds_some}
+use Rattle.interp.proofs.Addresses.{owned, result_not_var, slot_not_var, var_type_is}
+use Rattle.interp.proofs.Asking.{made_by, top_is}
 use Rattle.interp.proofs.Lists.{same_some, some_at}
 use Rattle.interp.proofs.Lying.{type_in_range}
 use Rattle.interp.proofs.Parts.{scalar_count}
-use Rattle.interp.proofs.Storage.{frame_stands, map_found}
+use Rattle.interp.proofs.Storage.{frame_stands}
 
 -- ---- scalars
 

@@ -1,5 +1,5 @@
 -- A call that is to be made, and what it gives the new activation.
-use Rattle.std.specs.Prelude.{◌≡◌, ℕ, ◌+◌, ◌<◌, ◌≤◌, Bool, true, false, List, length, map, ℤ, Option, Some, None, slice_get, slice_set}
+use Rattle.std.specs.Prelude.{◌≡◌, ℕ, ◌+◌, ◌<◌, ◌≤◌, Bool, true, false, List, length, map, ℤ, Option, Some, slice_get, slice_set}
 use Rattle.std.specs.Option.{option_and_then}
 use Rattle.arithmetic.specs.Numbers.{IsNumber}
 use Rattle.pas_program.specs.Checked.{tables}

@@ -13,7 +13,6 @@ use Rattle.control_points.specs.declared.edge.Act.TheVariants as act
 use Rattle.control_points.specs.declared.edge.Edge.{Edge}
 use Rattle.control_points.specs.declared.flow.Flow.{Flow}
 use Rattle.control_points.specs.declared.fault.Fault.{Fault}
-use Rattle.control_points.specs.Fits.{routine_at}
 use Rattle.interp.specs.declared.decide.Change.{Change}
 use Rattle.interp.specs.declared.decide.Change.TheVariants as change
 use Rattle.interp.specs.declared.decide.Deed.{Deed}

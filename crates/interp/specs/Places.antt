@@ -1,6 +1,6 @@
 -- Where in the list of scalars the variables of a state lie: those of the activations one after another, those of a variable in the
 -- order of the values of its subscripts.
-use Rattle.std.specs.Prelude.{◌≡◌, ℕ, ◌+◌, ◌*◌, Bool, false, List, [], ◌∷◌, ℤ, ◌-ℤ◌, unsigned_abs, Option, Some, None, Ok, slice_get, if◌then◌else◌}
+use Rattle.std.specs.Prelude.{◌≡◌, ℕ, ◌+◌, ◌*◌, false, List, [], ◌∷◌, ℤ, ◌-ℤ◌, unsigned_abs, Option, Some, None, Ok, slice_get, if◌then◌else◌}
 use Rattle.std.specs.Option.{option_map}
 use Rattle.px_base.specs.declared.kind.Kind.TheVariants.{IndexOutOfRange}
 use Rattle.pas_program.specs.declared.program.Program.{Program}

@@ -1,8 +1,7 @@
-use Rattle.std.proofs.Common.{◌≡◌, ◌∷◌, sym, ◌∙◌, subst, ap}
+use Rattle.std.proofs.Common.{sym, ◌∙◌, subst}
 use Rattle.control_points.specs.Runs.{IsInput, IsInputItem}
 use Rattle.control_points.specs.declared.item.Item.TheVariants.{LineEnd}
 use Rattle.interp.proofs.InputLemmas.{told_feed, told_word, input_push, word_is_input}
-use Rattle.interp.specs.InputItems as spec
 use Rattle.interp.proofs.items.items_of.Goals as goal
 
 pub loop-first-preserved-in_ok-push : goal.loop-first-preserved-in_ok-push

@@ -1,8 +1,8 @@
-use Rattle.std.proofs.Common.{◌≡◌, ◌*◌, ◌∙◌, ap, sym, arith, get_or}
-use Rattle.std.proofs.lemmas.Option.{slice_get_within, get_or_from_slice_get}
+use Rattle.std.proofs.Common.{◌*◌, ◌∙◌, ap, sym, arith, get_or}
+use Rattle.std.proofs.lemmas.Option.{get_or_from_slice_get}
 use Rattle.std.specs.List.{slice_get}
 use Rattle.pas_program.proofs.Layouts.{array_fits, layout-Array, layout-Scalar}
-use Rattle.pas_program.specs.Types.{count_values, layout}
+use Rattle.pas_program.specs.Types.{count_values}
 use Rattle.interp.proofs.layout.next_count.Goals as goal
 
 pub values_of-requires-clause-in_range : goal.values_of-requires-clause-in_range

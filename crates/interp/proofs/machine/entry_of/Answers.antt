@@ -1,7 +1,6 @@
-use Rattle.std.proofs.Common.{◌≡◌, ap, arith, ◌∙◌, sym, false, get_or}
+use Rattle.std.proofs.Common.{◌∙◌, sym}
 use Rattle.std.proofs.lemmas.Bool.{ne_eqb}
-use Rattle.control_points.specs.declared.point.PointKind.TheVariants as kind
-use Rattle.interp.proofs.Starting.{entry_at, entry_not, entry_none, is_entry_of, not_both, not_first}
+use Rattle.interp.proofs.Starting.{entry_at, entry_not, entry_none, not_both, not_first}
 use Rattle.interp.proofs.machine.entry_of.Goals as goal
 use Rattle.interp.proofs.machine.entry_of.Goals.{else-is_entry-via-then-is_entry+else-point-routine, else-is_entry-via-else-is_entry}
 

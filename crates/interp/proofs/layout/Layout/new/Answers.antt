@@ -1,4 +1,4 @@
-use Rattle.std.proofs.Common.{◌≡◌, arith}
+use Rattle.std.proofs.Common.{arith}
 use Rattle.interp.proofs.Laying.{offset_is, offset_fits, laid_more, laid_all}
 use Rattle.interp.proofs.Storage.{extent_few}
 use Rattle.interp.proofs.layout.Layout.new.Goals as goal

@@ -16,7 +16,7 @@ use Rattle.interp.proofs.Addresses.{scalar_room}
 use Rattle.interp.proofs.Asking.{top_is}
 use Rattle.interp.proofs.Forms.{call_each, call_scalar, right_each, right_fits, value_scalar}
 use Rattle.interp.proofs.Targets.{own_visible, scalar_place}
-use Rattle.interp.proofs.Subscripting.{leading_at, leads_same, element_room, not_scalar}
+use Rattle.interp.proofs.Subscripting.{leading_at, leads_same, element_room}
 use Rattle.interp.proofs.machine.Machine.+evaluate.Goals as goal
 
 pub element-value-requires : goal.element-value-requires
@@ -24,11 +24,16 @@ element-value-requires t c =
     let m = c.args.self.now in
     let p = m.flow.now.program in
     let xs = c.args.subscripts.now in
-    let i = c.loop-subscript.subscript-index in
-    (search (rules, the_lemmas),
-    (all_true_at (each_expr (numbers_in p)) xs i c.subscript-item.result c.loop-subscript-test.true c.subscript-item.is c.requires.numbers,
-    ((leading_at p c.loop-subscript.of_type i c.subscript-item.result xs c.loop-subscript-test.true c.subscript-item.is c.loop-subscript.invariant.fits).subscript,
-    all_true_at (each_expr (scope_in p (top_routine m.frames.items))) xs i c.subscript-item.result c.loop-subscript-test.true c.subscript-item.is c.requires.scopes)))
+    let i = c.loop-subscript.subscript-index in (
+      search (rules, the_lemmas),
+      (
+        all_true_at (each_expr (numbers_in p)) xs i c.subscript-item.result c.loop-subscript-test.true c.subscript-item.is c.requires.numbers,
+        (
+          (leading_at p c.loop-subscript.of_type i c.subscript-item.result xs c.loop-subscript-test.true c.subscript-item.is c.loop-subscript.invariant.fits).subscript,
+          all_true_at (each_expr (scope_in p (top_routine m.frames.items))) xs i c.subscript-item.result c.loop-subscript-test.true c.subscript-item.is c.requires.scopes,
+        ),
+      ),
+    )
 
 pub element-overflow_mul-address : goal.element-overflow_mul-address
 element-overflow_mul-address t c =
@@ -72,11 +77,16 @@ pub value-value-requires-in-Binary-2 : goal.value-value-requires-in-Binary-2
 value-value-requires-in-Binary-2 t c =
     let m = c.args.self.now in
     let p = m.flow.now.program in
-    let e = c.args.e.now in
-    (search (rules, the_lemmas),
-    (subst (λ x. each_expr (numbers_in p) x ≡ true) (sym c.get-in-Binary-2.ensures) (right_each (numbers_in p) e c.in-Binary.op c.in-Binary.left c.in-Binary.right c.in-Binary.at (c.in-Binary.is ∙ sym (rolls-Binary c.in-Binary.op c.in-Binary.left c.in-Binary.right c.in-Binary.at)) c.requires.numbers),
-    (subst (λ x. (hosted (tables p) x).fits ≡ true) (sym c.get-in-Binary-2.ensures) (right_fits (tables p) e c.in-Binary.op c.in-Binary.left c.in-Binary.right c.in-Binary.at (c.in-Binary.is ∙ sym (rolls-Binary c.in-Binary.op c.in-Binary.left c.in-Binary.right c.in-Binary.at)) c.requires.types),
-    subst (λ x. each_expr (scope_in p (top_routine m.frames.items)) x ≡ true) (sym c.get-in-Binary-2.ensures) (right_each (scope_in p (top_routine m.frames.items)) e c.in-Binary.op c.in-Binary.left c.in-Binary.right c.in-Binary.at (c.in-Binary.is ∙ sym (rolls-Binary c.in-Binary.op c.in-Binary.left c.in-Binary.right c.in-Binary.at)) c.requires.scopes))))
+    let e = c.args.e.now in (
+      search (rules, the_lemmas),
+      (
+        subst (λ x. each_expr (numbers_in p) x ≡ true) (sym c.get-in-Binary-2.ensures) (right_each (numbers_in p) e c.in-Binary.op c.in-Binary.left c.in-Binary.right c.in-Binary.at (c.in-Binary.is ∙ sym (rolls-Binary c.in-Binary.op c.in-Binary.left c.in-Binary.right c.in-Binary.at)) c.requires.numbers),
+        (
+          subst (λ x. (hosted (tables p) x).fits ≡ true) (sym c.get-in-Binary-2.ensures) (right_fits (tables p) e c.in-Binary.op c.in-Binary.left c.in-Binary.right c.in-Binary.at (c.in-Binary.is ∙ sym (rolls-Binary c.in-Binary.op c.in-Binary.left c.in-Binary.right c.in-Binary.at)) c.requires.types),
+          subst (λ x. each_expr (scope_in p (top_routine m.frames.items)) x ≡ true) (sym c.get-in-Binary-2.ensures) (right_each (scope_in p (top_routine m.frames.items)) e c.in-Binary.op c.in-Binary.left c.in-Binary.right c.in-Binary.at (c.in-Binary.is ∙ sym (rolls-Binary c.in-Binary.op c.in-Binary.left c.in-Binary.right c.in-Binary.at)) c.requires.scopes),
+        ),
+      ),
+    )
 
 pub value-address_of-requires-clause-visible : goal.value-address_of-requires-clause-visible
 value-address_of-requires-clause-visible t c =
@@ -85,7 +95,7 @@ value-address_of-requires-clause-visible t c =
     let t = top_is m.flow.now m.frames.items m.framed in
     let s = call_each (scope_in p (top_routine m.frames.items)) c.args.e.now c.in-Call.routine c.in-Call.actuals c.in-Call.slot c.in-Call.at (c.in-Call.is ∙ sym (rolls-Call c.in-Call.routine c.in-Call.actuals c.in-Call.slot c.in-Call.at)) c.requires.scopes in
     own_visible p (top_routine m.frames.items) c.in-Call.slot kind.Slot (let r = t.stands.routine_in_range in let s = t.routine in omega arith)
-        (and_parts (is_callable (tables p) (top_routine m.frames.items) c.in-Call.routine) _ s).1
+    (and_parts (is_callable (tables p) (top_routine m.frames.items) c.in-Call.routine) _ s).1
 
 pub value-used-requires-in-Call : goal.value-used-requires-in-Call
 value-used-requires-in-Call t c =

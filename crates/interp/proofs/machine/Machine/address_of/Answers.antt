@@ -1,4 +1,4 @@
-use Rattle.std.proofs.Common.{ap, arith, ◌∙◌, sym, Some}
+use Rattle.std.proofs.Common.{ap, arith, sym}
 use Rattle.std.proofs.lemmas.Option.{slice_get_read}
 use Rattle.pas_program.specs.declared.variable.VarKind.TheVariants as kind
 use Rattle.pas_program.specs.Tables.{is_kind}

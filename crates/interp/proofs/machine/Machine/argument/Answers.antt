@@ -1,4 +1,4 @@
-use Rattle.std.proofs.Common.{◌≡◌, refl, ap, arith, ◌∙◌, sym, subst}
+use Rattle.std.proofs.Common.{refl, ap, ◌∙◌, sym}
 use Rattle.std.specs.List.{slice_get}
 use Rattle.pas_program.specs.declared.expr.Actual.TheViews as views
 use Rattle.pas_program.specs.Checked.{tables}
@@ -15,8 +15,11 @@ unfolding views.out-Actual denote.Hole.Carrier.out
 returns-in_ok-assigned-in-Value c =
     let p = c.args.self.now.flow.now.program in
     let t = tables p in
-    record { safe = λ x e.
-        let w = passed_value t c.args.actual.now _ c.in-Value.e x c.in-Value.is refl (sym (ap (holds_of (is_passed_to t (passed t c.args.actual.now))) e) ∙ c.requires.fits) in
-        (value_not_var x.kind w.0,
-        scalar_count p x.of_type (host_scalar (hosted t c.in-Value.e).boolean (slice_get p.types x.of_type) w.1),
-        number_cast c.in_ok-assigned-in-Value.field-0 c.in_ok-assigned-in-Value.ensures.number) }
+    record {
+      safe = λ x e.
+          let w = passed_value t c.args.actual.now _ c.in-Value.e x c.in-Value.is refl (sym (ap (holds_of (is_passed_to t (passed t c.args.actual.now))) e) ∙ c.requires.fits) in (
+            value_not_var x.kind w.0,
+            scalar_count p x.of_type (host_scalar (hosted t c.in-Value.e).boolean (slice_get p.types x.of_type) w.1),
+            number_cast c.in_ok-assigned-in-Value.field-0 c.in_ok-assigned-in-Value.ensures.number,
+          );
+    }

@@ -77,9 +77,11 @@ returns-in-Some c =
     let w = leaves_at f.edges (top_point m.frames.items) i k (sym (ap (λ ys. slice_get ys i) c.edges_onward-number-items.ensures) ∙ slice_get-get_or xs i 0 c.loop-number-test.true) in
     let o = onward f m.frames.items m.framed k w.edge w.known w.source in
     let is : c.index-edges-number.result ≡ w.edge = c.index-edges-number.is ∙ ap (λ es. get_or es k c.index-edges-number.result) c.edges.ensures ∙ get_or_from_slice_get f.edges k w.edge c.index-edges-number.result w.known in
-    record { safe = record {
-      edge = c.index-edges-number.result;
-      known = w.known ∙ ap Some (sym is);
-      leaves = ap (λ (e : Edge). e.from) is ∙ w.source;
-      asked = subst (λ o. IfSome o (IsAsked f.program m.frames.items c.index-edges-number.result.act)) c.in-Some.is c.in_ok-deed.ensures.safe;
-    } }
+    record {
+      safe = record {
+        edge = c.index-edges-number.result;
+        known = w.known ∙ ap Some (sym is);
+        leaves = ap (λ (e : Edge). e.from) is ∙ w.source;
+        asked = subst (λ o. IfSome o (IsAsked f.program m.frames.items c.index-edges-number.result.act)) c.in-Some.is c.in_ok-deed.ensures.safe;
+      };
+    }

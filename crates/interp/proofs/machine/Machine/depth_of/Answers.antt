@@ -1,8 +1,8 @@
-use Rattle.std.proofs.Common.{◌≡◌, ◌<◌, Some, ap, ◌∙◌, sym, subst}
+use Rattle.std.proofs.Common.{◌<◌, ap, ◌∙◌, sym, subst}
 use Rattle.std.proofs.lemmas.Option.{none-some, get_or_from_slice_get}
 use Rattle.pas_program.specs.Checked.{tables}
 use Rattle.interp.specs.declared.frame.Frame.{Frame}
-use Rattle.interp.proofs.Chains.{OnWay, Parent, parent_of}
+use Rattle.interp.proofs.Chains.{OnWay, parent_of}
 use Rattle.interp.proofs.Lists.{same_some}
 use Rattle.interp.proofs.machine.Machine.depth_of.Goals as goal
 

@@ -1,4 +1,4 @@
-use Rattle.std.proofs.Common.{ap, ◌∙◌, sym, Some}
+use Rattle.std.proofs.Common.{ap, ◌∙◌, sym}
 use Rattle.std.proofs.lemmas.Option.{none-some}
 use Rattle.control_points.specs.Chart.{leaving}
 use Rattle.interp.proofs.Lists.{same_some}

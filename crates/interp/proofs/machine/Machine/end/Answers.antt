@@ -1,6 +1,5 @@
-use Rattle.std.proofs.Common.{◌≡◌, ◌+◌, ap, arith, ◌∙◌, sym}
+use Rattle.std.proofs.Common.{◌+◌, ap, arith, ◌∙◌}
 use Rattle.interp.specs.declared.frame.Extent.{Extent}
-use Rattle.interp.specs.Layouts.{extent_of}
 use Rattle.interp.proofs.Storage.{frame_stands, frame_within, end_is}
 use Rattle.interp.proofs.machine.Machine.end.Goals as goal
 

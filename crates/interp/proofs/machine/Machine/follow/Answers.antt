@@ -1,4 +1,4 @@
-use Rattle.std.proofs.Common.{◌≡◌, ap, sym, ◌∙◌, subst, refl, Some, get_or}
+use Rattle.std.proofs.Common.{ap, sym, ◌∙◌, subst, refl, Some, get_or}
 use Rattle.std.specs.Option.{option_map}
 use Rattle.std.proofs.lemmas.Option.{get_or_from_slice_get}
 use Rattle.control_points.specs.declared.edge.Edge.{Edge}

@@ -1,4 +1,4 @@
-use Rattle.std.proofs.Common.{◌≡◌, length, ap, arith, ◌∙◌, sym, subst}
+use Rattle.std.proofs.Common.{length, ap, arith, ◌∙◌, subst}
 use Rattle.interp.specs.declared.frame.Extent.{Extent}
 use Rattle.interp.specs.Calls.{IsArgument}
 use Rattle.interp.proofs.Casts.{number_cast}
@@ -41,7 +41,10 @@ pub invariant_of-self-in-Variable : goal.invariant_of-self-in-Variable
 invariant_of-self-in-Variable c =
     let m = c.args.self.now in
     record {
-      leads = m.leads; laid_out = m.laid_out; input = m.input; framed = m.framed;
+      leads = m.leads;
+      laid_out = m.laid_out;
+      input = m.input;
+      framed = m.framed;
       linked = links_set m.flow.now m.frames.items m.links.items _ c.in-Variable.address m.framed m.linked (omega (arith, ap (λ (x : Extent). x.links) c.requires.base));
       stored = m.stored;
     }
@@ -52,7 +55,11 @@ invariant_of-self c =
     let g = giving m.flow.now.program m.frames.items c.args.formal c.args.base c.offset_of-offset.result m.links.items m.scalars.items c.requires.in_range c.requires.base c.requires.room c.offset_of-offset.ensures in
     let a = subst (IsArgument m.flow.now.program m.frames.items c.args.formal) c.in-Number.is c.requires.argument in
     record {
-      leads = m.leads; laid_out = m.laid_out; input = m.input; framed = m.framed; linked = m.linked;
+      leads = m.leads;
+      laid_out = m.laid_out;
+      input = m.input;
+      framed = m.framed;
+      linked = m.linked;
       stored = scalars_set m.flow.now.program m.frames.items m.scalars.items _ _ _ m.stored (number_cast c.in-Number.z (a g.var g.known).2) c.change.ensures;
     }
 
@@ -62,7 +69,11 @@ invariant_of-self-in-Array c =
     let g = giving m.flow.now.program m.frames.items c.args.formal c.args.base c.offset_of-offset.result m.links.items m.scalars.items c.requires.in_range c.requires.base c.requires.room c.offset_of-offset.ensures in
     let b = give_array m.flow.now.program m.frames.items c.args.formal c.args.base c.offset_of-offset.result m.links.items m.scalars.items g c.in-Array.from c.in-Array.count (subst (IsArgument m.flow.now.program m.frames.items c.args.formal) c.in-Array.is c.requires.argument) m.stored.room in
     record {
-      leads = m.leads; laid_out = m.laid_out; input = m.input; framed = m.framed; linked = m.linked;
+      leads = m.leads;
+      laid_out = m.laid_out;
+      input = m.input;
+      framed = m.framed;
+      linked = m.linked;
       stored = scalars_copied m.flow.now.program m.frames.items m.scalars.items _ _ c.in-Array.from c.in-Array.count m.stored b.0 b.1 c.change-in-Array.ensures;
     }
 

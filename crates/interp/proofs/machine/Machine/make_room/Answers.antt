@@ -1,8 +1,8 @@
-use Rattle.std.proofs.Common.{◌≡◌, refl, ◌+◌, ◌-◌, take, ap, arith, ◌∙◌, sym, length-take}
+use Rattle.std.proofs.Common.{refl, ◌+◌, ap, arith, ◌∙◌}
 use Rattle.interp.specs.declared.frame.Extent.{Extent}
 use Rattle.interp.specs.Machines.{AreLinks}
 use Rattle.interp.proofs.Lists.{one_of}
-use Rattle.interp.proofs.Numbers.{numbers_append, numbers_take, numbers_none, links_kept, resized_same, scalars_cut, scalars_more, links_more}
+use Rattle.interp.proofs.Numbers.{scalars_cut, scalars_more, links_more}
 use Rattle.interp.proofs.Storage.{extent_few}
 use Rattle.interp.proofs.machine.Machine.make_room.Goals as goal
 
@@ -24,7 +24,11 @@ pub invariant_of-self : goal.invariant_of-self
 invariant_of-self c =
     let m = c.args.self.now in
     record {
-      leads = m.leads; laid_out = m.laid_out; input = m.input; framed = m.framed; linked = m.linked;
+      leads = m.leads;
+      laid_out = m.laid_out;
+      input = m.input;
+      framed = m.framed;
+      linked = m.linked;
       stored = scalars_cut m.flow.now.program m.frames.items m.scalars.items _ c.args.base.scalars m.stored (ap (λ (x : Extent). x.scalars) c.requires.base) (c.in_err-resize.ensures.items ∙ c.truncate.ensures.items);
     }
 
@@ -34,7 +38,10 @@ invariant_of-self-2 c =
     let b = ap (λ (x : Extent). x.scalars) c.requires.base in
     let l = ap (λ (x : Extent). x.links) c.requires.base in
     record {
-      leads = m.leads; laid_out = m.laid_out; input = m.input; framed = m.framed;
+      leads = m.leads;
+      laid_out = m.laid_out;
+      input = m.input;
+      framed = m.framed;
       linked = one_of (AreLinks m.flow.now.program m.frames.items) _ _ _ _ c.resize-2.ensures.items (links_more m.flow.now m.frames.items m.links.items _ (c.args.base.links + c.extent_of-extent.result.links) _ m.framed m.linked (omega (arith, l)) refl) m.linked;
       stored = scalars_more m.flow.now.program m.frames.items _ _ _ _ (scalars_cut m.flow.now.program m.frames.items m.scalars.items _ c.args.base.scalars m.stored b c.truncate.ensures.items) (omega (arith, b)) c.in_ok-resize.ensures.items;
     }

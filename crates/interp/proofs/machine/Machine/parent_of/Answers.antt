@@ -1,5 +1,4 @@
-use Rattle.std.proofs.Common.{ap, sym}
-use Rattle.interp.proofs.Called.{parent_around, no_parent, found_parent}
+use Rattle.interp.proofs.Called.{parent_around}
 use Rattle.interp.specs.Machines.{top_routine}
 use Rattle.interp.proofs.machine.Machine.parent_of.Goals as goal
 

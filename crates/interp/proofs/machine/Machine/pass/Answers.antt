@@ -10,7 +10,7 @@ use Rattle.std.specs.List.{slice_get}
 use Rattle.pas_program.proofs.Elements.{all_true_at}
 use Rattle.interp.specs.Machines.{top_routine}
 use Rattle.interp.specs.Calls.{HasNew}
-use Rattle.interp.proofs.Passing.{FormalIs, formal_is, passed_all, all_linked, given_length, given_more, room_kept, so_far_moved}
+use Rattle.interp.proofs.Passing.{formal_is, passed_all, all_linked, given_length, given_more, room_kept, so_far_moved}
 use Rattle.interp.proofs.machine.Machine.pass.Goals as goal
 
 pub bounds-formals-i : goal.bounds-formals-i
@@ -24,15 +24,15 @@ argument-requires-clause-numbers c =
     let m = c.args.self.now in
     let a = c.index-actuals-i.result in
     subst (λ (f : Flow). each_actual (numbers_in f.program) a ≡ true) (sym c.loop-i.invariant.kept.flow)
-        (all_true_at (each_actual (numbers_in m.flow.now.program)) c.args.actuals.now c.loop-i.i a c.loop-i-test.true c.index-actuals-i.is c.requires.numbers)
+    (all_true_at (each_actual (numbers_in m.flow.now.program)) c.args.actuals.now c.loop-i.i a c.loop-i-test.true c.index-actuals-i.is c.requires.numbers)
 
 pub argument-requires-clause-scopes : goal.argument-requires-clause-scopes
 argument-requires-clause-scopes c =
     let m = c.args.self.now in
     let a = c.index-actuals-i.result in
     subst (λ (f : Flow). each_actual (scope_in f.program (top_routine c.loop-i.self.frames.items)) a ≡ true) (sym c.loop-i.invariant.kept.flow)
-        (subst (λ (xs : List Frame). each_actual (scope_in m.flow.now.program (top_routine xs)) a ≡ true) (sym c.loop-i.invariant.kept.frames)
-            (all_true_at (each_actual (scope_in m.flow.now.program (top_routine m.frames.items))) c.args.actuals.now c.loop-i.i a c.loop-i-test.true c.index-actuals-i.is c.requires.scopes))
+    (subst (λ (xs : List Frame). each_actual (scope_in m.flow.now.program (top_routine xs)) a ≡ true) (sym c.loop-i.invariant.kept.frames)
+    (all_true_at (each_actual (scope_in m.flow.now.program (top_routine m.frames.items))) c.args.actuals.now c.loop-i.i a c.loop-i-test.true c.index-actuals-i.is c.requires.scopes))
 
 pub argument-requires-clause-fits : goal.argument-requires-clause-fits
 argument-requires-clause-fits c =
@@ -78,8 +78,8 @@ loop-i-preserved c =
           (given_length n.flow.now.program n.frames.items v f.var c.in_ok-argument.argument n.links.items new.links.items there c.give.ensures.links) c.give.ensures.scalars c.loop-i.invariant.room;
       linked = so_far_moved n.flow.now new.flow.now n.frames.items new.frames.items fs _ new.links.items g.flow g.frames
           (given_more n.flow.now.program n.frames.items c.args.routine c.loop-i.i v f.var fs n.links.items new.links.items c.in_ok-argument.argument
-              (λ j u x e h. f.own j u x e (sym (ap (λ (g : Flow). slice_get g.program.vars u) k.flow) ∙ h)) f.known there
-              (c.in_ok-argument.ensures.safe f.var there) c.give.ensures.links c.loop-i.invariant.linked);
+          (λ j u x e h. f.own j u x e (sym (ap (λ (g : Flow). slice_get g.program.vars u) k.flow) ∙ h)) f.known there
+          (c.in_ok-argument.ensures.safe f.var there) c.give.ensures.links c.loop-i.invariant.linked);
     }
 
 pub returns-clause-linked : goal.returns-clause-linked
@@ -89,7 +89,7 @@ returns-clause-linked c =
     let k = c.loop-i.invariant.kept in
     let l = passed_all m.flow.now.program c.args.routine c.routine.result.now c.args.actuals.now c.as_slice-formals.result.now c.routine.ensures.value c.as_slice-formals.ensures c.requires.fits in
     all_linked m.flow.now n.flow.now m.frames.items n.frames.items c.args.routine c.routine.result.now c.as_slice-formals.result.now c.loop-i.i n.links.items k.flow k.frames c.routine.ensures.value c.as_slice-formals.ensures
-        (omega (arith, l, c.loop-i-test.false)) c.loop-i.invariant.linked
+    (omega (arith, l, c.loop-i-test.false)) c.loop-i.invariant.linked
 
 pub returns-clause-room : goal.returns-clause-room
 returns-clause-room c =

@@ -33,6 +33,7 @@ pub goes_on-requires-in-Some-slot_of-clause-change : goal.goes_on-requires-in-So
 goes_on-requires-in-Some-slot_of-clause-change c =
     let m = c.args.self.now in
     let top = ap (option_and_then (λ (g : Frame). g.call)) c.top.ensures ∙ c.in-Some.is ∙ ap Some c.if-made-call.false in
-    let o = (slot_facts m.flow.now m.frames.items m.framed c.args.call c.in-Some-slot_of.slot top (sym c.in-Some-slot_of.ensures)).own in
-    (room_place m.flow.now.program m.frames.items c.in-Some-slot_of.slot c.scalar_of.result o.var o.known c.scalar_of.ensures.room,
-    number_cast c.in_ok-z-in-Some-slot_of.z c.in_ok-z-in-Some-slot_of.ensures.number)
+    let o = (slot_facts m.flow.now m.frames.items m.framed c.args.call c.in-Some-slot_of.slot top (sym c.in-Some-slot_of.ensures)).own in (
+      room_place m.flow.now.program m.frames.items c.in-Some-slot_of.slot c.scalar_of.result o.var o.known c.scalar_of.ensures.room,
+      number_cast c.in_ok-z-in-Some-slot_of.z c.in_ok-z-in-Some-slot_of.ensures.number,
+    )
