@@ -1,0 +1,104 @@
+//! The command `run`.
+ghost use Rattle.std.specs.Prelude.{◌≡◌, ◌≤◌, length, IfOk};
+ghost use Rattle.syntox.specs.Lines.{max_source};
+ghost use Rattle.syntox.specs.Running.{status_of};
+
+use crate::due::{Due, Stream, line, unreadable};
+use crate::limit::{MAX_INPUT, MAX_SOURCE};
+use crate::source::{Refusal, flow_of};
+use crate::status::Status;
+use control_points::Flow;
+use interp::{Ending, items_of, run as run_flow, text as run_text};
+use px_base::{ReadEnd, Shelf, Source, read_all, read_file};
+use report::{SourceFault, fault_text};
+use std::alloc::{AllocError, Global};
+
+/// The status of a run that ended so.
+fn status_of(ending: Ending) -> Status
+    ensures { result ≡ status_of ending }
+{
+    match ending {
+        Ending::Halted => Status::Done,
+        Ending::Error(_) => Status::RunError,
+        Ending::OutOfSteps => Status::OutOfSteps,
+    }
+}
+
+/// The text of a run on the bytes of an input.
+fn run_on(
+    alloc: Global,
+    text: &[u8],
+    flow: &Flow,
+    steps: u32,
+    input: &[u8],
+) -> Result<Due, AllocError>
+    requires { length text.now ≤ max_source }
+{
+    let items = items_of(alloc, input)?;
+    let ended = run_flow(alloc, flow, &items, steps)?;
+    let status = status_of(ended.ending);
+    let text = run_text(alloc, ended, text)?;
+    let to = Stream::Answers;
+    Ok(Due { to, text, status })
+}
+
+/// What is due for a run of a source without fault: the text, or the line that there is no input for it.
+fn run_with<D: Source>(
+    alloc: Global,
+    text: &[u8],
+    flow: &Flow,
+    steps: u32,
+    given: &mut D,
+) -> Result<Due, AllocError>
+    requires { length text.now ≤ max_source }
+{
+    match read_all(alloc, given, MAX_INPUT) {
+        Ok(input) => run_on(alloc, text, flow, steps, &input),
+        Err(ReadEnd::TooLarge) => line(alloc, "input", "too large", Status::DataTooLarge),
+        Err(ReadEnd::Failed) => unreadable(alloc, "input"),
+        Err(ReadEnd::Memory(error)) => Err(error),
+    }
+}
+
+/// The line of a source's fault.
+fn refuse(alloc: Global, file: &str, text: &[u8], fault: &SourceFault) -> Result<Due, AllocError> {
+    let text = fault_text(alloc, file, text, fault)?;
+    let to = Stream::Complaints;
+    let status = Status::Refused;
+    Ok(Due { to, text, status })
+}
+
+/// What is due for a run of the program in a text.
+fn run_source<D: Source>(
+    alloc: Global,
+    file: &str,
+    text: &[u8],
+    steps: u32,
+    given: &mut D,
+) -> Result<Due, AllocError>
+    requires { length text.now ≤ max_source }
+{
+    match flow_of(alloc, text) {
+        Ok(flow) => run_with(alloc, text, &flow, steps, given),
+        Err(Refusal::Fault(fault)) => refuse(alloc, file, text, &fault),
+        Err(Refusal::Memory(error)) => Err(error),
+    }
+}
+
+/// What is due for a run of the program in a file, of at most so many steps.
+pub fn run<P: Shelf, D: Source>(
+    alloc: Global,
+    file: &str,
+    steps: u32,
+    shelf: &mut P,
+    given: &mut D,
+) -> Result<Due, AllocError>
+    requires { P.may_ask shelf.old file.now }
+{
+    match read_file(alloc, shelf, file, MAX_SOURCE) {
+        Ok(text) => run_source(alloc, file, &text, steps, given),
+        Err(ReadEnd::TooLarge) => refuse(alloc, file, b"", &SourceFault::TooLarge),
+        Err(ReadEnd::Failed) => unreadable(alloc, file),
+        Err(ReadEnd::Memory(error)) => Err(error),
+    }
+}
