@@ -1,5 +1,5 @@
 //! The fault of a source, and the line that tells of it.
-ghost use Rattle.std.specs.Prelude.{◌≡◌, ◌++◌, ◌≤◌, codes, length, IfOk, OnOk};
+ghost use Rattle.std.specs.Prelude.{◌≡◌, ◌++◌, ◌≤◌, codes, length, IfOk};
 ghost use Rattle.px_base.specs.Place.{place_at};
 ghost use Rattle.report.specs.Wording as spec;
 
