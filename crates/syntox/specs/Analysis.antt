@@ -6,7 +6,11 @@ use Rattle.px_base.specs.Bytes.{ForFile}
 use Rattle.first_form.specs.Grammar.{IsFormOf}
 use Rattle.first_form.specs.Text.{IsLineTrue, lines_of, text_of}
 use Rattle.first_form.specs.declared.form.Form.{Form}
-use Rattle.syntox.specs.Lines.{max_source}
+use Rattle.syntox.specs.Lines.{max_source, refusal_line}
+use Rattle.syntox.specs.declared.due.Stream.{Stream}
+use Rattle.syntox.specs.declared.due.Stream.TheVariants.{Answers, Complaints}
+use Rattle.syntox.specs.declared.status.Status.{Status}
+use Rattle.syntox.specs.declared.status.Status.TheVariants.{Done, Refused}
 
 -- a file that is analysed: it is small enough, and a program of the first form
 abbrev pub HasForm : List ℕ → Form → Type 0
@@ -24,3 +28,8 @@ pub record IsReport (file : List ℕ) (told : Option (Option (List ℕ))) (text 
   pub has_form : HasForm bytes form
   pub is : text ≡ text_of file form
   pub is_true : All (IsLineTrue form) (lines_of form)
+
+-- What is due for a file that was read: this text goes to this sink, with this status once it was written.
+pub data IsAnalysed (file : List ℕ) (told : Option (Option (List ℕ))) : Stream → List ℕ → Status → Type 0 where
+  no_form : HasNoForm told → IsAnalysed file told Complaints (refusal_line file) Refused
+  report : {text : List ℕ} → IsReport file told text → IsAnalysed file told Answers text Done

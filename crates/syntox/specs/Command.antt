@@ -1,6 +1,8 @@
 -- What the words of the command line ask for. A word is its bytes.
 use Rattle.std.specs.Prelude.{ℕ, ◌+◌, ◌-◌, ◌*◌, nat_le, List, [], ◌∷◌, Bool, true, not, ◌&&◌, ◌==◌, if◌then◌else◌, Option, Some, None, option_map, Vec, String, map, string_bytes, codes}
-use Rattle.std.specs.Str.{byte, bytes_eq, all_ascii_digits}
+use Rattle.std.specs.Char.{is_ascii_digit}
+use Rattle.std.specs.List.{list_all}
+use Rattle.std.specs.Str.{byte, bytes_eq}
 use Rattle.std.specs.declared.alloc.Global.{Global}
 use Rattle.syntox.specs.declared.command.Command.{Command}
 use Rattle.syntox.specs.declared.command.Command.TheVariants as command
@@ -34,7 +36,7 @@ within_steps steps = if nat_le 1 steps && nat_le steps max_steps then Some steps
 
 -- one or more digits, with a value from 1 to the most
 abbrev pub steps_of : List ℕ → Option ℕ
-steps_of digits = if all_ascii_digits digits then within_steps (number_after 0 digits) else None
+steps_of digits = if list_all is_ascii_digit digits then within_steps (number_after 0 digits) else None
 
 -- ---- commands
 

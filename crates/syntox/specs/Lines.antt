@@ -1,5 +1,10 @@
 -- The lines that say why there is no text, and the limits of what is read.
 use Rattle.std.specs.Prelude.{ℕ, List, ◌++◌, codes}
+use Rattle.px_base.specs.Faults.{Rose}
+use Rattle.syntox.specs.declared.due.Stream.{Stream}
+use Rattle.syntox.specs.declared.due.Stream.TheVariants.{Complaints}
+use Rattle.syntox.specs.declared.status.Status.{Status}
+use Rattle.syntox.specs.declared.status.Status.TheVariants.{ReadFault}
 
 -- the most bytes of a source
 abbrev pub max_source : ℕ
@@ -25,3 +30,7 @@ unreadable_line who = line who (codes "cannot be read")
 
 abbrev pub large_input_line : List ℕ
 large_input_line = line (codes "input") (codes "too large")
+
+-- A count of faults rose, and the line is due that this file, or the input, cannot be read.
+pub data IsUnreadable (who : List ℕ) (before after : ℕ) : Stream → List ℕ → Status → Type 0 where
+  unreadable : Rose before after → IsUnreadable who before after Complaints (unreadable_line who) ReadFault

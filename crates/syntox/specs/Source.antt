@@ -13,6 +13,7 @@ use Rattle.pas_program.specs.Labels.{ControlsAreLocal}
 use Rattle.pas_check.specs.Fault.{IsWithin}
 use Rattle.pas_check.specs.declared.fault.CheckFault.TheVariants.{Wrong}
 use Rattle.control_points.specs.declared.flow.Flow.{Flow}
+use Rattle.report.specs.Wording.{CanTell}
 use Rattle.report.specs.declared.fault.SourceFault.{SourceFault}
 use Rattle.report.specs.declared.fault.SourceFault.TheVariants.{Lex, Parse, Check}
 use Rattle.syntox.specs.declared.source.Refusal.{Refusal}
@@ -49,12 +50,17 @@ token_of (NoMemory e) = 0
 -- tokens gives. Of a rule it is told that the source has a tree, and that the rule is one of the eighteen and its place in
 -- the text.
 pub data HasSourceFault (text : List ℕ) : SourceFault → Type 0 where
-  lexical : (fault : LexFault) → HasFault text fault → HasSourceFault text (Lex fault)
-  syntax : (tokens : List Token) (fault : ParseFault) → HasTokens text tokens → program tokens ≡ Err fault
+  lexical : {fault : LexFault} → HasFault text fault → HasSourceFault text (Lex fault)
+  syntax : {tokens : List Token} {fault : ParseFault} → HasTokens text tokens → program tokens ≡ Err fault
       → HasSourceFault text (Parse fault (token_place (length text) tokens (token_of fault)))
-  rule : (tree : Tree) (code at : ℕ) → IsTreeOf text tree → IsWithin (length text) (Wrong code at) → HasSourceFault text (Check (Wrong code at))
+  rule : {tree : Tree} {code at : ℕ} → IsTreeOf text tree → IsWithin (length text) (Wrong code at) → HasSourceFault text (Check (Wrong code at))
 
 -- why a source has no flow: a fault of it, or want of memory, which may come at any source
 abbrev pub Refuses : List ℕ → Refusal → Type 0
 Refuses text (Fault fault) = HasSourceFault text fault
 Refuses text (Memory e) = Unit {0}
+
+-- the fault can be told of a text of this length: it has a place there
+abbrev pub CanBeTold : ℕ → Refusal → Type 0
+CanBeTold len (Fault fault) = CanTell len fault
+CanBeTold len (Memory e) = Unit {0}

@@ -1,6 +1,8 @@
 //! The words of the command line.
-ghost use Rattle.std.specs.Prelude.{◌≡◌, ◌≤◌, map, string_bytes, option_map, IfSome};
-ghost use Rattle.syntox.specs.Command.{asked_of, is_operand, steps_of, told};
+ghost use Rattle.std.specs.Prelude.{◌≡◌, map, string_bytes, option_map};
+ghost use Rattle.std.specs.Char.{is_ascii_digit};
+ghost use Rattle.std.specs.List.{list_all};
+ghost use Rattle.syntox.specs.Command.{asked_of, is_operand, plain, steps_of, told};
 
 /// The whole usage line.
 pub const USAGE: &str =
@@ -28,11 +30,18 @@ fn is_operand(word: &str) -> bool
     word == "-" || !word.as_bytes().starts_with(b"-")
 }
 
+/// Whether each byte is a digit.
+fn has_digits_alone(word: &str) -> bool
+    ensures { result ≡ list_all is_ascii_digit word.now }
+{
+    word.as_bytes().iter().all(|byte| byte.is_ascii_digit())
+}
+
 /// The number of steps that a word asks for: one or more digits, with a value from 1 to 1,000,000,000.
 fn steps_of(word: &str) -> Option<u32>
     ensures { result ≡ steps_of word.now }
 {
-    if !word.bytes().all(|byte| byte.is_ascii_digit()) {
+    if !has_digits_alone(word) {
         return None;
     }
     match word.parse::<u32>() {
@@ -42,7 +51,9 @@ fn steps_of(word: &str) -> Option<u32>
 }
 
 /// The command without options that a word names.
-fn plain_command<'a>(command: &str, file: &'a str) -> Option<Command<'a>> {
+fn plain_command<'a>(command: &str, file: &'a str) -> Option<Command<'a>>
+    ensures { option_map told result ≡ plain command.now file.now }
+{
     match command {
         "analyse" => Some(Command::Analyse { file }),
         "run" => Some(Command::Run {

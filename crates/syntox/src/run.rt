@@ -1,7 +1,9 @@
 //! The command `run`.
-ghost use Rattle.std.specs.Prelude.{◌≡◌, ◌≤◌, length, IfOk};
-ghost use Rattle.syntox.specs.Lines.{max_source};
-ghost use Rattle.syntox.specs.Running.{status_of};
+ghost use Rattle.std.specs.Prelude.{◌≡◌, ◌≤◌, ◌⊎◌, ℕ, List, Some, length, IfOk};
+ghost use Rattle.report.specs.Wording.{CanTell, fault_line};
+ghost use Rattle.syntox.specs.Lines.{IsUnreadable, max_input, max_source};
+ghost use Rattle.syntox.specs.Running.{IsFaultless, IsRun, IsRunDue, input_of, status_of};
+ghost use Rattle.syntox.specs.Source.{IsFlowOf};
 
 use crate::due::{Due, Stream, line, unreadable};
 use crate::limit::{MAX_INPUT, MAX_SOURCE};
@@ -32,7 +34,11 @@ fn run_on(
     steps: u32,
     input: &[u8],
 ) -> Result<Due, AllocError>
-    requires { length text.now ≤ max_source }
+    requires source { length text.now ≤ max_source }
+    requires input { length input.now ≤ max_input }
+    requires flow { IsFlowOf text.now flow.now }
+    ensures stream { IfOk result (λ due. due.to ≡ Stream.Answers) }
+    ensures run { IfOk result (λ due. IsRun (Some (Some text.now)) (Some input.now) steps due.status due.text.items) }
 {
     let items = items_of(alloc, input)?;
     let ended = run_flow(alloc, flow, &items, steps)?;
@@ -50,7 +56,10 @@ fn run_with<D: Source>(
     steps: u32,
     given: &mut D,
 ) -> Result<Due, AllocError>
-    requires { length text.now ≤ max_source }
+    requires source { length text.now ≤ max_source }
+    requires flow { IsFlowOf text.now flow.now }
+    ensures { (file : List ℕ) → IfOk result (λ due. IsRunDue file (Some (Some text.now))
+        (input_of (D.left given.old) (D.faults given.old) (D.faults given.new)) steps due.to due.text.items due.status) }
 {
     match read_all(alloc, given, MAX_INPUT) {
         Ok(input) => run_on(alloc, text, flow, steps, &input),
@@ -77,6 +86,9 @@ fn run_source<D: Source>(
     given: &mut D,
 ) -> Result<Due, AllocError>
     requires { length text.now ≤ max_source }
+    ensures due { IfOk result (λ due. IsRunDue file.now (Some (Some text.now))
+        (input_of (D.left given.old) (D.faults given.old) (D.faults given.new)) steps due.to due.text.items due.status) }
+    ensures given { (given.new ≡ given.old) ⊎ IsFaultless (Some (Some text.now)) }
 {
     match flow_of(alloc, text) {
         Ok(flow) => run_with(alloc, text, &flow, steps, given),
@@ -94,6 +106,11 @@ pub fn run<P: Shelf, D: Source>(
     given: &mut D,
 ) -> Result<Due, AllocError>
     requires { P.may_ask shelf.old file.now }
+    ensures due { IfOk result (λ due.
+        IsRunDue file.now (P.file shelf.old file.now) (input_of (D.left given.old) (D.faults given.old) (D.faults given.new)) steps
+        due.to due.text.items due.status
+        ⊎ IsUnreadable file.now (P.faults shelf.old) (P.faults shelf.new) due.to due.text.items due.status) }
+    ensures given { (given.new ≡ given.old) ⊎ IsFaultless (P.file shelf.old file.now) }
 {
     match read_file(alloc, shelf, file, MAX_SOURCE) {
         Ok(text) => run_source(alloc, file, &text, steps, given),

@@ -1,8 +1,14 @@
 //! From the bytes of a source to its flow, with the cause where there is none.
-ghost use Rattle.std.specs.Prelude.{◌≡◌, ◌≤◌, length, IfOk, IfErr};
+ghost use Rattle.std.specs.Prelude.{◌≡◌, ◌≤◌, List, ℕ, length, IfOk, IfErr};
+ghost use Rattle.pas_check.specs.Fault.{IsWithin};
+ghost use Rattle.pas_lexer.specs.Covering as covering;
+ghost use Rattle.pas_lexer.specs.Covering.{HasTokens};
 ghost use Rattle.pas_lexer.specs.Spans.{SpansRise};
+ghost use Rattle.pas_parser.specs.Outcome.{Gives};
+ghost use Rattle.pas_parser.specs.Program.{program};
+ghost use Rattle.pas_tree.specs.declared.block.Tree.{Tree};
 ghost use Rattle.syntox.specs.Lines.{max_source};
-ghost use Rattle.syntox.specs.Source.{IsFlowOf, Refuses, token_place};
+ghost use Rattle.syntox.specs.Source.{CanBeTold, IsFlowOf, IsTreeOf, Refuses, token_place};
 
 use control_points::{Flow, build};
 use pas_check::{CheckFault, check};
@@ -20,33 +26,46 @@ pub enum Refusal {
     Memory(AllocError),
 }
 
-fn lexical(fault: LexFault) -> Refusal {
+/// What a lexical fault is to the source.
+fn lexical(fault: LexFault) -> Refusal
+    ensures fault { (text : List ℕ) → covering.Refuses text fault → Refuses text result }
+    ensures place { (text : List ℕ) → covering.Refuses text fault → CanBeTold (length text) result }
+{
     match fault {
         LexFault::Memory(error) => Refusal::Memory(error),
         _ => Refusal::Fault(SourceFault::Lex(fault)),
     }
 }
 
-/// The place of a token, or of the end of a text of this length.
-fn place_of(tokens: &[Token], length: u32, token: u32) -> u32
-    ensures { result ≡ token_place length tokens.now token }
+/// The place of a token, or the end of the text.
+fn place_of(tokens: &[Token], end: u32, token: u32) -> u32
+    ensures { result ≡ token_place end tokens.now token }
 {
     match tokens.get(token as usize) {
         Some(token) => token.span.start,
-        None => length,
+        None => end,
     }
 }
 
-fn syntax(fault: ParseFault, tokens: &[Token], length: u32) -> Refusal {
+/// What a fault of the syntax is to a source that ends there.
+fn syntax(fault: ParseFault, tokens: &[Token], end: u32) -> Refusal
+    ensures fault { (text : List ℕ) → length text ≡ end → HasTokens text tokens.now
+        → Gives (program tokens.now) (Err fault) → Refuses text result }
+    ensures place { SpansRise end tokens.now → CanBeTold end result }
+{
     match fault {
         ParseFault::NoRule { token } | ParseFault::TooDeep { token } => {
-            Refusal::Fault(SourceFault::Parse(fault, place_of(tokens, length, token)))
+            Refusal::Fault(SourceFault::Parse(fault, place_of(tokens, end, token)))
         }
         ParseFault::Memory(error) => Refusal::Memory(error),
     }
 }
 
-fn checked(fault: CheckFault) -> Refusal {
+/// What a broken rule is to the source.
+fn checked(fault: CheckFault) -> Refusal
+    ensures fault { (text : List ℕ) (tree : Tree) → IsTreeOf text tree → IsWithin (length text) fault → Refuses text result }
+    ensures place { (text : List ℕ) → IsWithin (length text) fault → CanBeTold (length text) result }
+{
     match fault {
         CheckFault::Wrong { .. } => Refusal::Fault(SourceFault::Check(fault)),
         CheckFault::Memory(error) => Refusal::Memory(error),
@@ -62,6 +81,7 @@ pub fn flow_of(alloc: Global, text: &[u8]) -> Result<Flow, Refusal>
     requires { length text.now ≤ max_source }
     ensures flow { IfOk result (IsFlowOf text.now) }
     ensures fault { IfErr result (Refuses text.now) }
+    ensures place { IfErr result (CanBeTold (length text.now)) }
 {
     let tokens = match lex(alloc, text) {
         Ok(tokens) => tokens,

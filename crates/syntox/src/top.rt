@@ -7,7 +7,7 @@ ghost use Rattle.syntox.specs.Analysis.{HasForm, HasNoForm, IsReport};
 ghost use Rattle.syntox.specs.Answers.{Cuts, ForCommand, ForRun, IsDue, outside};
 ghost use Rattle.syntox.specs.Command.{Asked, analysis_of, run_of, asked, file_of};
 ghost use Rattle.syntox.specs.Lines.{large_input_line, max_input, refusal_line, unreadable_line, usage_line};
-ghost use Rattle.syntox.specs.Running.{HasTree, IsFaultless, IsLargeInput, IsRun, IsRunStatus, TellsFault};
+ghost use Rattle.syntox.specs.Running.{HasTree, IsFaultless, IsLargeInput, IsRun, IsRunStatus, TellsFault, TellsRule, input_of};
 ghost use Rattle.syntox.specs.Sinks.{Takes, at, sinks};
 
 use crate::analyse::analyse;
@@ -15,6 +15,7 @@ use crate::command::{Command, command_of};
 use crate::due::{Due, deliver, usage};
 use crate::run::run;
 use crate::status::Status;
+use pas_lexer::a_text_has_one_covering;
 use px_base::{Shelf, Sink, Source};
 use std::alloc::{AllocError, Global};
 
@@ -27,7 +28,7 @@ fn due_for<P: Shelf, D: Source>(
 ) -> Result<Due, AllocError>
     requires may_ask { (asks : Asked) → asked words.now ≡ Some asks → P.may_ask shelf.old (file_of asks) }
     ensures due { IfOk result (λ due. IsDue
-        (outside (P.file shelf.old) (D.left given.old) (P.faults shelf.old) (P.faults shelf.new) (D.faults given.old) (D.faults given.new))
+        (outside (P.file shelf.old) (P.faults shelf.old) (P.faults shelf.new) (input_of (D.left given.old) (D.faults given.old) (D.faults given.new)))
         (asked words.now) due.to due.text.items due.status) }
     ensures given { (given.new ≡ given.old) ⊎ ForRun (asked words.now) (λ file steps. IsFaultless (P.file shelf.old file)) }
 {
@@ -81,7 +82,7 @@ pub fn top<P: Shelf, D: Source, O: Sink, E: Sink>(
 
     // A sink failed, and has a prefix of what was due to it.
     ensures write_fault { result ≡ Ok Status.WriteFault → Cuts
-        (outside (P.file shelf.old) (D.left given.old) (P.faults shelf.old) (P.faults shelf.new) (D.faults given.old) (D.faults given.new))
+        (outside (P.file shelf.old) (P.faults shelf.old) (P.faults shelf.new) (input_of (D.left given.old) (D.faults given.old) (D.faults given.new)))
         (asked words.now) (sinks
         (at (O.taken out.old) (O.faults out.old)) (at (O.taken out.new) (O.faults out.new))
         (at (E.taken err.old) (E.faults err.old)) (at (E.taken err.new) (E.faults err.new))) }
@@ -95,16 +96,18 @@ pub fn top<P: Shelf, D: Source, O: Sink, E: Sink>(
         → P.file shelf.old file ≡ Some (Some bytes) → HasTree bytes → D.left given.old ≡ Some input → length input ≤ max_input
         → ¬ Rose (P.faults shelf.old) (P.faults shelf.new) → ¬ Rose (D.faults given.old) (D.faults given.new)
         → ¬ Rose (O.faults out.old) (O.faults out.new) → ¬ Rose (E.faults err.old) (E.faults err.new)
-        → IfOk result (λ status. IsRunStatus status ⊎ (status ≡ Status.Refused)) }
+        → IfOk result (λ status. IsRunStatus status
+        ⊎ ((status ≡ Status.Refused) × Takes (E.taken err.old) (E.taken err.new) (TellsRule file bytes))) }
 
     // What stays as it was. The input is read only for the run of a source without fault.
     ensures out_kept { result ≢ Ok Status.Done → result ≢ Ok Status.RunError → result ≢ Ok Status.OutOfSteps → result ≢ Ok Status.WriteFault
         → O.taken out.new ≡ O.taken out.old }
-    ensures err_kept { (result ≡ Ok Status.Done) ⊎ (result ≡ Ok Status.RunError) ⊎ (result ≡ Ok Status.OutOfSteps)
+    ensures err_kept { (result ≡ Ok Status.Done) ⊎ ((result ≡ Ok Status.RunError) ⊎ (result ≡ Ok Status.OutOfSteps))
         → E.taken err.new ≡ E.taken err.old }
     ensures untouched { OnErr result ((out.new ≡ out.old) × (err.new ≡ err.old)) }
     ensures given { (given.new ≡ given.old) ⊎ ForRun (asked words.now) (λ file steps. IsFaultless (P.file shelf.old file)) }
 {
+    a_text_has_one_covering();
     let due = due_for(alloc, words, shelf, given)?;
     Ok(deliver(&due, out, err))
 }
