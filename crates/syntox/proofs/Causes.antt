@@ -1,8 +1,7 @@
 -- What an answer says of the file, the input and the sinks.
-use Rattle.std.proofs.Common.{◌≡◌, ◌≢◌, ◌⊎◌, inl, inr, ℕ, ◌≤◌, ◌<◌, List, length, Option, Some, None, refl, sym, ap, subst, ◌∙◌, codes, arith}
+use Rattle.std.proofs.Common.{◌≡◌, ◌≢◌, ◌⊎◌, inl, inr, ℕ, List, Option, None, refl, sym, ap, subst, ◌∙◌, codes}
 use Rattle.px_base.specs.Bytes.{Adds}
 use Rattle.px_base.specs.Faults.{Rose}
-use Rattle.first_form.specs.declared.form.Form.{Form}
 use Rattle.interp.specs.declared.running.Ending.{Ending}
 use Rattle.interp.specs.declared.running.Ending.TheVariants as ending
 use Rattle.syntox.specs.Analysis.{HasForm, HasNoForm, IsReport}

@@ -1,5 +1,5 @@
 -- Faults of a source, and that they can be told.
-use Rattle.std.proofs.Common.{◌≡◌, ◌⊎◌, inl, inr, ℕ, zero, suc, ◌+◌, ◌-◌, ◌≤◌, ◌<◌, Bool, true, false, cond, List, [], ◌∷◌, length, drop, get_or, Option, Some, None, Ok, Err, refl, sym, ap, subst, ◌∙◌, fold, arith, length-drop}
+use Rattle.std.proofs.Common.{◌≡◌, ◌⊎◌, inl, inr, ℕ, zero, suc, ◌≤◌, ◌<◌, Bool, true, false, cond, List, [], ◌∷◌, length, get_or, Option, Some, Ok, Err, refl, sym, ap, subst, ◌∙◌, fold, arith, length-drop}
 use Rattle.std.specs.declared.alloc.AllocError.{AllocError}
 use Rattle.pas_lexer.specs.Covering.{Breaks, HasFault, HasTokens, LeavesOpen, Piece, Place, Stands, Touch, end_of, opened_after, past, start}
 use Rattle.pas_lexer.specs.Covering as covering
@@ -10,13 +10,15 @@ use Rattle.pas_lexer.specs.declared.fault.LexFault.TheVariants as lexical
 use Rattle.pas_lexer.specs.declared.token.Token.{Token}
 use Rattle.pas_lexer.specs.declared.token.TokenKind.{TokenKind}
 use Rattle.pas_lexer.specs.declared.token.TokenKind.TheVariants as kind
+use Rattle.pas_parser.specs.Grammar.Program.{IsProgram}
 use Rattle.pas_parser.specs.Outcome.{Gives, IsOwn}
 use Rattle.pas_parser.specs.Program.{program}
 use Rattle.pas_parser.specs.declared.fault.ParseFault.{ParseFault}
 use Rattle.pas_parser.specs.declared.fault.ParseFault.TheVariants.{NoRule, TooDeep}
+use Rattle.pas_tree.specs.declared.block.Tree.{Tree}
 use Rattle.report.specs.Wording.{CanTellLexical, IsSyntax, lexical_place}
 use Rattle.report.specs.declared.fault.SourceFault.TheVariants.{Parse}
-use Rattle.syntox.specs.Source.{HasSourceFault, token_of, token_place}
+use Rattle.syntox.specs.Source.{HasSourceFault, IsTreeOf, token_of, token_place}
 use Rattle.syntox.specs.Source as source
 
 -- ---- lexical faults
@@ -99,3 +101,9 @@ syntax_fault text tokens fault end token place is place_is ends has gives =
     let same : token_place (length text) tokens (token_of fault) ≡ place =
     ap (λ n. token_place n tokens (token_of fault)) ends ∙ ap (λ t. token_place end tokens t) o.1 ∙ sym place_is in
     subst (λ p. HasSourceFault text (Parse fault p)) same (source.syntax has (gives o.0))
+
+-- ---- trees
+
+pub tree_of : (text : Text) (given tokens : List Token) (tree : Tree) → given ≡ tokens → HasTokens text tokens → program given ≡ Ok tree → IsProgram given tree
+    → IsTreeOf text tree
+tree_of text given tokens tree same has read is = record { tokens = given; has_tokens = subst (HasTokens text) (sym same) has; is_read = read; is_program = is }

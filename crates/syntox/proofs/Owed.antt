@@ -1,25 +1,30 @@
 -- What is due, step by step.
-use Rattle.std.proofs.Common.{◌≡◌, ◌⊎◌, inl, inr, ℕ, ◌≤◌, ◌<◌, List, [], length, Option, Some, None, Result, Ok, Err, IfOk, refl, sym, subst, ◌∙◌, arith}
+use Rattle.std.proofs.Common.{◌≡◌, ◌⊎◌, inl, inr, ℕ, ◌≤◌, ◌<◌, List, length, Option, Some, None, Result, Ok, Err, IfOk, map, option_map, refl, sym, subst, ◌∙◌, arith}
 use Rattle.std.specs.List.{All}
 use Rattle.std.specs.Option.{ForSome}
+use Rattle.std.specs.Prelude.{Vec}
 use Rattle.std.specs.declared.alloc.AllocError.{AllocError}
+use Rattle.std.specs.declared.alloc.Global.{Global}
 use Rattle.px_base.specs.Bytes.{ForFile}
 use Rattle.px_base.specs.Faults.{HasCause, Rose}
 use Rattle.px_base.specs.Reading.{is_fault}
 use Rattle.px_base.specs.declared.reading.ReadEnd.{ReadEnd}
-use Rattle.px_base.specs.declared.reading.ReadEnd.TheVariants.{Failed, TooLarge}
+use Rattle.px_base.specs.declared.reading.ReadEnd.TheVariants.{Failed}
 use Rattle.control_points.specs.declared.flow.Flow.{Flow}
 use Rattle.first_form.specs.Grammar.{IsFormOf}
 use Rattle.first_form.specs.Text.{IsLineTrue, lines_of, text_of}
 use Rattle.first_form.specs.declared.form.Form.{Form}
-use Rattle.report.specs.Wording.{fault_line}
-use Rattle.report.specs.declared.fault.SourceFault.{SourceFault}
 use Rattle.syntox.specs.Analysis.{HasForm, HasNoForm, IsAnalysed, IsReport}
 use Rattle.syntox.specs.Analysis as analysis
-use Rattle.syntox.specs.Lines.{IsUnreadable, max_input, max_source}
+use Rattle.syntox.specs.Answers.{IsDue, Outside}
+use Rattle.syntox.specs.Answers as answers
+use Rattle.syntox.specs.Command.{Asked, analysis_of, asked_of, run_of}
+use Rattle.syntox.specs.Command as words
+use Rattle.syntox.specs.Lines.{IsUnreadable, max_source}
 use Rattle.syntox.specs.Running.{Given, HasFlow, IsFaultless, IsInputOf, IsRun, IsRunDue, IsSource, TellsFault}
 use Rattle.syntox.specs.Running as running
-use Rattle.syntox.specs.Source.{HasSourceFault, IsFlowOf}
+use Rattle.syntox.specs.Source.{IsFlowOf}
+use Rattle.syntox.specs.declared.command.Command.{Command}
 use Rattle.syntox.specs.declared.due.Due.{Due}
 use Rattle.syntox.specs.declared.due.Stream.{Stream}
 use Rattle.syntox.specs.declared.due.Stream.TheVariants.{Answers, Complaints}
@@ -40,8 +45,8 @@ lined P line meant (Ok due) is to text status =
 lined P line meant (Err e) is to text status = to
 
 -- the outside failed where this is the answer
-pub failed : {T : Type 0} (before after : ℕ) (e : ReadEnd) → e ≡ Failed → HasCause before after (is_fault {T = T} (Err e)) → Rose before after
-failed {T} before after e is cause = (subst (λ x. HasCause before after (is_fault {T = T} (Err x))) is cause).rose
+pub failed : (before after : ℕ) (e : ReadEnd) → e ≡ Failed → HasCause before after (is_fault {T = Vec ℕ Global} (Err e)) → Rose before after
+failed before after e is cause = (subst (λ x. HasCause before after (is_fault {T = Vec ℕ Global} (Err x))) is cause).rose
 
 -- ---- what is due for bytes
 
@@ -175,3 +180,37 @@ pub given_read : {A : Type 0} (bytes given : List ℕ) (told : Option (Option (L
     → A ⊎ IsFaultless (Some (Some given)) → A ⊎ IsFaultless told
 given_read bytes given told read same (inl kept) = inl kept
 given_read bytes given told read same (inr is) = inr (faultless_bytes bytes told read (subst (λ b. IsFaultless (Some (Some b))) same is))
+
+-- ---- what the words ask for
+
+pub asks_for : {A : Type 0} (of : A → List ℕ) (all given : List A) (command known : Command) → given ≡ all → command ≡ known
+    → option_map words.told (Some command) ≡ asked_of (map of given) → asked_of (map of all) ≡ Some (words.told known)
+asks_for of all given command known same is e =
+    sym (subst (λ ws. Some (words.told known) ≡ asked_of (map of ws)) same (subst (λ k. Some (words.told k) ≡ asked_of (map of given)) is e))
+
+pub asks_for_none : {A : Type 0} (of : A → List ℕ) (all given : List A) → given ≡ all → None ≡ asked_of (map of given) → asked_of (map of all) ≡ None
+asks_for_none of all given same e = sym (subst (λ ws. None ≡ asked_of (map of ws)) same e)
+
+module _ (o : Outside) (asked : Option Asked) (result : Result Due AllocError) where
+  abbrev Due_is : Type 0
+  Due_is = IfOk result (λ due. IsDue o asked due.to due.text.items due.status)
+
+  pub analysis_due : (file : List ℕ) → asked ≡ Some (analysis_of file)
+      → IfOk result (λ due. Analysed file (o.files file) o.before o.after due.to due.text.items due.status) → Due_is
+  analysis_due file asks =
+      if_ok (λ due. Analysed file (o.files file) o.before o.after due.to due.text.items due.status) (λ due. IsDue o asked due.to due.text.items due.status) result
+      (λ due is. subst (λ a. IsDue o a due.to due.text.items due.status) (sym asks)
+      (elim is as (λ _. IsDue o (Some (analysis_of file)) due.to due.text.items due.status) [
+        | inl a ↦ answers.analysed a
+        | inr u ↦ answers.unread {asks = analysis_of file} u
+      ]))
+
+  pub run_due : (file : List ℕ) (steps : ℕ) → asked ≡ Some (run_of file steps)
+      → IfOk result (λ due. RunOr file (o.files file) o.input steps o.before o.after due.to due.text.items due.status) → Due_is
+  run_due file steps asks =
+      if_ok (λ due. RunOr file (o.files file) o.input steps o.before o.after due.to due.text.items due.status) (λ due. IsDue o asked due.to due.text.items due.status) result
+      (λ due is. subst (λ a. IsDue o a due.to due.text.items due.status) (sym asks)
+      (elim is as (λ _. IsDue o (Some (run_of file steps)) due.to due.text.items due.status) [
+        | inl r ↦ answers.run r
+        | inr u ↦ answers.unread {asks = run_of file steps} u
+      ]))

@@ -1,5 +1,5 @@
 -- The number of steps that a word asks for.
-use Rattle.std.proofs.Common.{◌≡◌, ℕ, ◌^◌, ◌≤◌, ◌<◌, true, false, cond, List, [], ◌∷◌, length, Some, None, Result, Ok, Err, sym, ap, subst, ◌∙◌, arith, rules}
+use Rattle.std.proofs.Common.{◌≡◌, ℕ, ◌^◌, ◌≤◌, ◌<◌, true, cond, List, [], ◌∷◌, length, Some, None, Result, Ok, Err, sym, ap, subst, ◌∙◌, arith, rules}
 use Rattle.std.specs.Char.{is_ascii_digit}
 use Rattle.std.specs.List.{list_all}
 use Rattle.std.specs.Result.{OkIff}
@@ -38,9 +38,9 @@ module _ {E : Type 0} (bs : List ℕ) (r : Result ℕ E) (parses : ParsesUnsigne
 
 -- a word of digits that is no number of 32 bits is empty or too large
 none_of : (bs : List ℕ) → ¬ ((0 < length bs) × (number_after 0 bs < 2 ^ 32)) → within_steps (number_after 0 bs) ≡ None
-none_of [] no = below 0 (omega arith)
-none_of (b ∷ bs) no =
-    let large : ¬ (number_after 0 (b ∷ bs) < 2 ^ 32) = λ less. no (omega arith, less) in
+none_of [] neither = below 0 (omega arith)
+none_of (b ∷ bs) neither =
+    let large : ¬ (number_after 0 (b ∷ bs) < 2 ^ 32) = λ less. neither (omega arith, less) in
     above (number_after 0 (b ∷ bs)) (omega (arith, large))
 
 pub no_number : {E : Type 0} (bs : List ℕ) (r : Result ℕ E) → ParsesUnsigned 32 10 bs r → list_all is_ascii_digit bs ≡ true → (e : E) → r ≡ Err e → None ≡ steps_of bs

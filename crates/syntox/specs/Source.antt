@@ -1,5 +1,5 @@
 -- How the bytes of a source lead to its flow, and which fault a source has.
-use Rattle.std.specs.Prelude.{◌≡◌, ℕ, ◌≤◌, List, length, Option, Some, None, Ok, Err, slice_get, option_map, unwrap_or}
+use Rattle.std.specs.Prelude.{◌≡◌, ℕ, List, length, Ok, Err, slice_get, option_map, unwrap_or}
 use Rattle.pas_lexer.specs.Covering.{HasTokens, HasFault}
 use Rattle.pas_lexer.specs.declared.fault.LexFault.{LexFault}
 use Rattle.pas_lexer.specs.declared.token.Token.{Token}

@@ -70,7 +70,13 @@ fn run_with<D: Source>(
 }
 
 /// The line of a source's fault.
-fn refuse(alloc: Global, file: &str, text: &[u8], fault: &SourceFault) -> Result<Due, AllocError> {
+fn refuse(alloc: Global, file: &str, text: &[u8], fault: &SourceFault) -> Result<Due, AllocError>
+    requires small { length text.now ≤ max_source }
+    requires told { CanTell (length text.now) fault.now }
+    ensures stream { IfOk result (λ due. due.to ≡ Stream.Complaints) }
+    ensures text { IfOk result (λ due. due.text.items ≡ fault_line file.now text.now fault.now) }
+    ensures status { IfOk result (λ due. due.status ≡ Status.Refused) }
+{
     let text = fault_text(alloc, file, text, fault)?;
     let to = Stream::Complaints;
     let status = Status::Refused;

@@ -1,4 +1,4 @@
-use Rattle.std.proofs.Common.{◌≡◌, ap, subst, ◌∙◌, List, refl}
+use Rattle.std.proofs.Common.{subst, ◌∙◌, List}
 use Rattle.control_points.specs.Flows.{chart_of}
 use Rattle.control_points.specs.declared.item.Item.{Item}
 use Rattle.interp.specs.RunText.{IsEnd}

@@ -1,5 +1,4 @@
-use Rattle.std.proofs.Common.{ap, subst, ◌∙◌, codes, Err}
-use Rattle.std.specs.Option.{ForSome}
+use Rattle.std.proofs.Common.{ap, ◌∙◌, codes, Err}
 use Rattle.syntox.proofs.Owed.{failed, faultless, lined, ran_on_input}
 use Rattle.syntox.specs.Lines.{large_input_line, unreadable_line}
 use Rattle.syntox.specs.Lines as lines
