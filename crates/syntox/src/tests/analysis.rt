@@ -53,7 +53,7 @@ fn answers(rt: HostRuntime) -> Result<(), Fail> {
     let missing = "missing.pas: cannot be read\n";
     let refused = "e.pas: not of the first form\n";
     let unread = "first.pas: cannot be read\n";
-    let cases: [(Setting, u8, &str, &str); 11] = [
+    let cases: [(Setting, u8, &str, &str); 12] = [
         (ANALYSE, 0, FIRST_TEXT, ""),
         (
             Setting {
@@ -145,6 +145,16 @@ fn answers(rt: HostRuntime) -> Result<(), Fail> {
             0,
             FIRST_TEXT,
             "",
+        ),
+        (
+            Setting {
+                words: &[],
+                err_fails: 2,
+                ..PLAIN
+            },
+            4,
+            "",
+            "usage: ",
         ),
     ];
     for (setting, number, out, err) in cases {

@@ -73,12 +73,5 @@ fn refused(rt: HostRuntime) -> Result<(), Fail> {
         assert_eq!(rt; outcome.out.bytes(), b"".as_slice());
         assert_eq!(rt; outcome.err.bytes(), USAGE.as_bytes());
     }
-    let setting = Setting {
-        err_fails: 2,
-        ..PLAIN
-    };
-    let outcome = answer_to(rt.alloc(), &FILES, &setting)?;
-    assert_eq!(rt; number_of(&outcome.status), 4);
-    assert_eq!(rt; outcome.err.bytes(), b"usage: ".as_slice());
     Ok(())
 }
