@@ -1,5 +1,7 @@
 pub mod Cases
+pub mod Constants
 pub mod Lists
+pub mod Marks
 pub mod Ranks
 pub mod Types
 pub mod Validity

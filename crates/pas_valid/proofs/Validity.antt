@@ -1,7 +1,7 @@
 -- The parts of validity, from what was tested of each routine, assertion and variable.
-use Rattle.std.proofs.Common.{◌≡◌, ℕ, ◌+◌, ◌<◌, ◌≤◌, Bool, true, ◌&&◌, List, length, nat_lt, map, refl, sym, ap, arith, Option, Some, None}
-use Rattle.std.proofs.lemmas.Bool.{and_parts, and_from, lt-ltb}
-use Rattle.std.proofs.lemmas.Option.{slice_get_within}
+use Rattle.std.proofs.Common.{◌≡◌, ℕ, ◌+◌, ◌<◌, ◌≤◌, Bool, true, false, ◌&&◌, List, [], ◌∷◌, ℤ, length, get_or, nat_eq, nat_lt, map, refl, sym, ap, ◌∙◌, arith, Option, Some, None}
+use Rattle.std.proofs.lemmas.Bool.{and_parts, and_from, lt-ltb, ltb-true, eq-eqb}
+use Rattle.std.proofs.lemmas.Option.{slice_get_within, slice_get-get_or}
 use Rattle.std.specs.List.{slice_get, sum}
 use Rattle.std.specs.Option.{option_map}
 use Rattle.pas_program.specs.declared.routine.Assert.{Assert}
@@ -9,14 +9,16 @@ use Rattle.pas_program.specs.declared.routine.Routine.{Routine}
 use Rattle.pas_program.specs.declared.type_def.TypeDef.{TypeDef}
 use Rattle.pas_program.specs.declared.variable.VarDef.{VarDef}
 use Rattle.pas_program.specs.declared.variable.VarKind.TheVariants as kind
-use Rattle.pas_program.specs.Labels.{ControlsAreLocal, control_rule}
+use Rattle.pas_program.specs.Each.{each_expr}
+use Rattle.pas_program.specs.Labels.{ConstantsDiffer, ControlsAreLocal, LabelsStand, call_free_rule, choice_rule, control_rule, count_labelled, label_rule}
 use Rattle.pas_program.specs.Scopes.{scope_rule}
 use Rattle.pas_program.specs.Size.{expr_size, statement_size}
-use Rattle.pas_program.specs.Tables.{Head, head_of, holds_of, is_callable, is_own, is_visible, tables_of}
+use Rattle.pas_program.specs.Tables.{Head, head_of, holds_of, is_around, is_callable, is_own, is_visible, tables_of}
 use Rattle.pas_program.specs.Typed.{type_of_var}
 use Rattle.pas_program.specs.Types.{is_scalar}
 use Rattle.pas_program.specs.Valid.{Bounded, InRange, InScope, WellTyped, counts_of, most_parts, number_rule, var_in_range}
 use Rattle.pas_program.proofs.Weaker.{Weaker, expr_weaker, statement_weaker}
+use Rattle.pas_valid.specs.Standing.{Labels, LabelsAre, has_label}
 use Rattle.pas_valid.specs.Whole.{AssertFits, RoutineFits, placed_in, rank_fits}
 use Rattle.pas_valid.proofs.Ranks.{holds_got, lists_fit}
 
@@ -28,38 +30,42 @@ mapped_some : {A B : Type 0} (g : A → B) (o : Option A) (f : B → Bool) → h
 mapped_some g None f h = h
 mapped_some g (Some x) f h = h
 
-module _ (types : List TypeDef) (vars : List VarDef) (routines : List Routine) (asserts : List Assert) where
+slice_get_below : {A : Type 0} (xs : List A) (k : ℕ) → k < length xs → (x : A) × (slice_get xs k ≡ Some x)
+slice_get_below [] k h = absurd (omega arith)
+slice_get_below (x ∷ xs) k h = (get_or (x ∷ xs) k x, slice_get-get_or (x ∷ xs) k x h)
+
+module _ (types : List TypeDef) (vars : List VarDef) (routines : List Routine) (asserts : List Assert) (labels : List Labels) where
   callable_below : (r s : ℕ) → is_callable (tables_of types vars routines) r s ≡ true → nat_lt s (length routines) ≡ true
   callable_below r s h = found_below _ routines s (mapped_some head_of (slice_get routines s) _ h)
 
-  numbers : (r : ℕ) → Weaker (placed_in types vars routines asserts r) (number_rule (counts_of types vars routines asserts))
-  numbers r = record {
+  numbers : (calls : Bool) (r : ℕ) → Weaker (placed_in types vars routines asserts labels calls r) (number_rule (counts_of types vars routines asserts))
+  numbers calls r = record {
     variable = λ v h. found_below _ vars v h;
-    call = λ s slot h. let p = and_parts (is_callable (tables_of types vars routines) r s) _ h in and_from _ _ (callable_below r s p.0) (found_below _ vars slot p.1);
+    call = λ s slot h. let p = and_parts (is_callable (tables_of types vars routines) r s) _ (and_parts calls _ h).1 in and_from _ _ (callable_below r s p.0) (found_below _ vars slot p.1);
     invoke = λ s h. callable_below r s h;
     loop = λ control bound h.
         let p = and_parts (is_own (tables_of types vars routines) r kind.Local control && is_scalar (type_of_var (tables_of types vars routines) control)) _ h in
         let q = and_parts (is_visible (tables_of types vars routines) r control) _ p.1 in
         and_from _ _ (found_below _ vars control q.0) (found_below _ vars bound q.1);
-    jump = λ s label h. (and_parts (nat_lt s (length routines)) _ h).0;
+    jump = λ s label h. (and_parts (nat_lt s (length routines)) _ (and_parts (nat_lt s (length routines) && is_around (tables_of types vars routines) r s) _ h).0).0;
     assertion = λ a h. h;
     sequence = λ n h. refl;
     choice = λ constants h. refl;
   }
 
-  scopes : (r : ℕ) → Weaker (placed_in types vars routines asserts r) (scope_rule (tables_of types vars routines) r)
-  scopes r = record {
+  scopes : (calls : Bool) (r : ℕ) → Weaker (placed_in types vars routines asserts labels calls r) (scope_rule (tables_of types vars routines) r)
+  scopes calls r = record {
     variable = λ v h. h;
-    call = λ s slot h. h;
+    call = λ s slot h. (and_parts calls _ h).1;
     invoke = λ s h. h;
     loop = λ control bound h. (and_parts (is_own (tables_of types vars routines) r kind.Local control && is_scalar (type_of_var (tables_of types vars routines) control)) _ h).1;
-    jump = λ s label h. (and_parts (nat_lt s (length routines)) _ h).1;
+    jump = λ s label h. (and_parts (nat_lt s (length routines)) _ (and_parts (nat_lt s (length routines) && is_around (tables_of types vars routines) r s) _ h).0).1;
     assertion = λ a h. refl;
     sequence = λ n h. h;
     choice = λ constants h. refl;
   }
 
-  controls : (r : ℕ) → Weaker (placed_in types vars routines asserts r) (control_rule (tables_of types vars routines) r)
+  controls : (r : ℕ) → Weaker (placed_in types vars routines asserts labels true r) (control_rule (tables_of types vars routines) r)
   controls r = record {
     variable = λ v h. refl;
     call = λ s slot h. refl;
@@ -71,20 +77,64 @@ module _ (types : List TypeDef) (vars : List VarDef) (routines : List Routine) (
     choice = λ constants h. refl;
   }
 
+  constants : (r : ℕ) → Weaker (placed_in types vars routines asserts labels true r) choice_rule
+  constants r = record {
+    variable = λ v h. refl;
+    call = λ s slot h. refl;
+    invoke = λ s h. refl;
+    loop = λ control bound h. refl;
+    jump = λ s label h. refl;
+    assertion = λ a h. refl;
+    sequence = λ n h. refl;
+    choice = λ constants h. h;
+  }
+
+  no_calls : (r : ℕ) → Weaker (placed_in types vars routines asserts labels false r) call_free_rule
+  no_calls r = record {
+    variable = λ v h. refl;
+    call = λ s slot h. h;
+    invoke = λ s h. refl;
+    loop = λ control bound h. refl;
+    jump = λ s label h. refl;
+    assertion = λ a h. refl;
+    sequence = λ n h. refl;
+    choice = λ constants h. refl;
+  }
+
+  -- a label that the set of a routine has stands at one of its statements
+  one_labelled : LabelsAre routines labels → (s label : ℕ) → nat_lt s (length routines) ≡ true → has_label labels s label ≡ true → (label_rule routines).jump s label ≡ true
+  one_labelled are s label h has =
+      let found = slice_get_below routines s (ltb-true s (length routines) h) in
+      ap (holds_of (λ (d : Routine). nat_eq (count_labelled label d.body) 1)) found.1 ∙ eq-eqb _ _ (are.each s label found.0 found.1 has)
+
+  jumps : LabelsAre routines labels → (r : ℕ) → Weaker (placed_in types vars routines asserts labels true r) (label_rule routines)
+  jumps are r = record {
+    variable = λ v h. refl;
+    call = λ s slot h. refl;
+    invoke = λ s h. refl;
+    loop = λ control bound h. refl;
+    jump = λ s label h.
+        let p = and_parts (nat_lt s (length routines) && is_around (tables_of types vars routines) r s) _ h in
+        one_labelled are s label (and_parts (nat_lt s (length routines)) _ p.0).0 p.1;
+    assertion = λ a h. refl;
+    sequence = λ n h. refl;
+    choice = λ constants h. refl;
+  }
+
   -- what was tested of all
   pub record AllFit (ranks : List ℕ) : Type 0 where
     pub range : (v : ℕ) (x : VarDef) → slice_get vars v ≡ Some x → var_in_range (counts_of types vars routines asserts) x ≡ true
     pub known : (v : ℕ) (x : VarDef) → slice_get vars v ≡ Some x → rank_fits routines ranks v x ≡ true
-    pub routine : (r : ℕ) (d : Routine) → slice_get routines r ≡ Some d → RoutineFits types vars routines asserts ranks r d
-    pub assertion : (a : ℕ) (d : Assert) → slice_get asserts a ≡ Some d → AssertFits types vars routines asserts d
+    pub routine : (r : ℕ) (d : Routine) → slice_get routines r ≡ Some d → RoutineFits types vars routines asserts labels ranks r d
+    pub assertion : (a : ℕ) (d : Assert) → slice_get asserts a ≡ Some d → AssertFits types vars routines asserts labels d
 
   pub in_range : (ranks : List ℕ) → AllFit ranks → InRange types vars routines asserts
   in_range ranks f = record {
     var = f.range;
     routine = λ r d e. (f.routine r d e).range;
-    body = λ r d e. statement_weaker _ _ (numbers r) d.body (f.routine r d e).scopes;
+    body = λ r d e. statement_weaker _ _ (numbers true r) d.body (f.routine r d e).scopes;
     assertion = λ a d e. (f.assertion a d e).range;
-    condition = λ a d e. expr_weaker _ _ (numbers d.routine) d.cond (f.assertion a d e).scopes;
+    condition = λ a d e. expr_weaker _ _ (numbers false d.routine) d.cond (f.assertion a d e).scopes;
   }
 
   pub well_typed : (ranks : List ℕ) → AllFit ranks → WellTyped types vars routines asserts
@@ -100,9 +150,18 @@ module _ (types : List TypeDef) (vars : List VarDef) (routines : List Routine) (
     parent = λ r d e. (f.routine r d e).parent;
     lists = λ r d e. lists_fit vars ranks routines r d e (f.routine r d e).lists f.known;
     outermost = λ r d e. (f.routine r d e).outermost;
-    body = λ r d e. statement_weaker _ _ (scopes r) d.body (f.routine r d e).scopes;
-    condition = λ a d e. expr_weaker _ _ (scopes d.routine) d.cond (f.assertion a d e).scopes;
+    body = λ r d e. statement_weaker _ _ (scopes true r) d.body (f.routine r d e).scopes;
+    condition = λ a d e. expr_weaker _ _ (scopes false d.routine) d.cond (f.assertion a d e).scopes;
   }
 
   pub controls_local : (ranks : List ℕ) → AllFit ranks → ControlsAreLocal (tables_of types vars routines) routines
   controls_local ranks f = record { each = λ r d e. statement_weaker _ _ (controls r) d.body (f.routine r d e).scopes }
+
+  pub constants_differ : (ranks : List ℕ) → AllFit ranks → ConstantsDiffer routines
+  constants_differ ranks f = record { each = λ r d e. statement_weaker _ _ (constants r) d.body (f.routine r d e).scopes }
+
+  pub labels_stand : (ranks : List ℕ) → AllFit ranks → LabelsAre routines labels → LabelsStand routines
+  labels_stand ranks f are = record { each = λ r d e. statement_weaker _ _ (jumps are r) d.body (f.routine r d e).scopes }
+
+  pub conditions_call_free : (ranks : List ℕ) → AllFit ranks → (a : ℕ) (d : Assert) → slice_get asserts a ≡ Some d → each_expr call_free_rule d.cond ≡ true
+  conditions_call_free ranks f a d e = expr_weaker _ _ (no_calls d.routine) d.cond (f.assertion a d e).scopes

@@ -1,5 +1,5 @@
 -- What is asked of each routine and each assertion of a program, so that the whole is valid.
-use Rattle.std.specs.Prelude.{◌≡◌, ℕ, Bool, true, ◌&&◌, List, length, nat_lt, nat_eq, Some, slice_get}
+use Rattle.std.specs.Prelude.{◌≡◌, ℕ, Bool, true, false, ◌&&◌, List, length, nat_lt, nat_eq, Some, slice_get}
 use Rattle.std.specs.Bool.{beq}
 use Rattle.pas_program.specs.declared.routine.Assert.{Assert}
 use Rattle.pas_program.specs.declared.routine.Routine.{Routine}
@@ -12,6 +12,7 @@ use Rattle.pas_program.specs.Tables.{holds_of, is_kind, tables_of}
 use Rattle.pas_program.specs.Typed.{hosted, is_of_host, statement_types_fit}
 use Rattle.pas_program.specs.Valid.{counts_of, result_fits, routine_in_range}
 use Rattle.pas_valid.specs.Passing.{placed_by}
+use Rattle.pas_valid.specs.Standing.{Labels}
 
 -- Whether the variable v stands rightly as the k-th of routine r. Each variable has a rank: its place in the list of its
 -- routine.
@@ -32,15 +33,15 @@ pub record Listed (vars : List VarDef) (ranks : List ℕ) (r : ℕ) (d : Routine
   pub formals : (k v : ℕ) → slice_get d.formals k ≡ Some v → holds_of (λ w. nat_eq w v) (slice_get d.vars k) ≡ true
   pub result : (v : ℕ) → d.result ≡ Some v → holds_of (λ (x : VarDef). nat_eq x.routine r) (slice_get vars v) ≡ true
 
-module _ (types : List TypeDef) (vars : List VarDef) (routines : List Routine) (asserts : List Assert) where
-  abbrev pub placed_in : ℕ → Rule
-  placed_in = placed_by (tables_of types vars routines) (length routines) (length asserts)
+module _ (types : List TypeDef) (vars : List VarDef) (routines : List Routine) (asserts : List Assert) (labels : List Labels) where
+  abbrev pub placed_in : Bool → ℕ → Rule
+  placed_in = placed_by (tables_of types vars routines) (length routines) labels (length asserts)
 
   pub record RoutineFits (ranks : List ℕ) (r : ℕ) (d : Routine) : Type 0 where
     pub range : routine_in_range (counts_of types vars routines asserts) d ≡ true
     pub result : result_fits (tables_of types vars routines) d.result ≡ true
     pub body : statement_types_fit (tables_of types vars routines) d.body ≡ true
-    pub scopes : each_statement (placed_in r) d.body ≡ true
+    pub scopes : each_statement (placed_in true r) d.body ≡ true
     pub parent : parent_fits routines r d d.parent ≡ true
     pub outermost : is_outermost d.body ≡ true
     pub lists : Listed vars ranks r d
@@ -48,4 +49,4 @@ module _ (types : List TypeDef) (vars : List VarDef) (routines : List Routine) (
   pub record AssertFits (d : Assert) : Type 0 where
     pub range : nat_lt d.routine (length routines) ≡ true
     pub condition : is_of_host true (hosted (tables_of types vars routines) d.cond) ≡ true
-    pub scopes : each_expr (placed_in d.routine) d.cond ≡ true
+    pub scopes : each_expr (placed_in false d.routine) d.cond ≡ true

@@ -119,6 +119,9 @@ impl<'a> Ground<'a> {
         ensures scopes { OnSome result (all_true (map (each_actual (placed self.now)) actuals.now) ≡ true) }
         ensures size { OnSome result (sum (map actual_size actuals.now) + left.new ≤ left.old) }
     {
+        if !self.calls {
+            return None;
+        }
         if !(self.is_callable(routine) && self.is_own(VarKind::Slot, slot)) {
             return None;
         }

@@ -4,8 +4,10 @@
 mod expr;
 mod ground;
 mod parts;
+mod refusal;
 mod routines;
 mod scope;
+mod standing;
 mod statement;
 mod type_list;
 mod type_rules;

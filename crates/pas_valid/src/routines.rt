@@ -1,6 +1,6 @@
 //! What is asked of each routine.
 
-ghost use Rattle.std.specs.Prelude.{◌≡◌, ◌+◌, ◌<◌, ◌≤◌, ℕ, OnSome, Some, length, nat_eq, nat_lt, slice_get, true};
+ghost use Rattle.std.specs.Prelude.{◌≡◌, ◌+◌, ◌<◌, ◌≤◌, ℕ, OnOk, OnSome, Some, length, nat_eq, nat_lt, slice_get, true};
 ghost use Rattle.std.specs.Bool.{OnTrue};
 ghost use Rattle.std.specs.Option.{option_map};
 ghost use Rattle.pas_program.specs.Each.{true_if_some};
@@ -13,6 +13,7 @@ ghost use Rattle.pas_valid.specs.Whole as whole;
 
 use crate::ground::Ground;
 use crate::parts::Parts;
+use crate::refusal::Refusal;
 use crate::scope::is_kind;
 use crate::statement::all_below;
 use pas_program::{Body, Routine, Statement, TypeDef, VarDef, VarKind};
@@ -63,25 +64,26 @@ fn formals_first(formals: &[u32], vars: &[u32]) -> Option<()>
 
 impl<'a> Parts<'a> {
     /// Whether routine `r` fits. `left` falls at least by the number of the parts of its body.
-    pub fn routine(&self, r: u32, d: &Routine, left: &mut u32) -> Option<()>
+    pub fn routine(&self, r: u32, d: &Routine, left: &mut u32) -> Result<(), Refusal>
         requires { r < length self.now.routines.now }
-        ensures fits { OnSome result (whole.RoutineFits self.now.types.now self.now.vars.now self.now.routines.now self.now.asserts.now self.now.ranks.now r d.now) }
-        ensures size { OnSome result (statement_size d.now.body + left.new ≤ left.old) }
+        ensures fits { OnOk result (whole.RoutineFits self.now.types.now self.now.vars.now self.now.routines.now self.now.asserts.now self.now.labels.now self.now.ranks.now r d.now) }
+        ensures size { OnOk result (statement_size d.now.body + left.new ≤ left.old) }
     {
         let ground = Ground {
+            alloc: self.alloc,
             types: self.types,
             vars: self.vars,
             routines: self.routines,
+            labels: self.labels,
             asserts: self.asserts.len(),
             routine: r,
+            calls: true,
         };
         let heads = self.in_range(d) && self.result_fits(d.result) && self.parent_fits(r, d);
-        if !(heads && is_outermost(&d.body)) {
-            return None;
+        if !(heads && is_outermost(&d.body)) || self.lists(r, d).is_none() {
+            return Err(Refusal::Invalid);
         }
-        self.lists(r, d)?;
-        ground.statement(&d.body, left)?;
-        Some(())
+        ground.statement(&d.body, left)
     }
 
     fn in_range(&self, d: &Routine) -> bool

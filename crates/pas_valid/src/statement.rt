@@ -1,19 +1,24 @@
 //! Statements: their types, what they see, and how much of them there is.
 
-ghost use Rattle.std.specs.Prelude.{◌≡◌, ◌+◌, ◌≤◌, true, false, OnSome, map, length, nat_lt};
+ghost use Rattle.std.specs.Prelude.{◌≡◌, ◌+◌, ◌++◌, ◌∷◌, ◌≤◌, List, ℤ, true, false, OnOk, OnSome, map, length, nat_lt};
 ghost use Rattle.std.specs.Bool.{OnTrue};
 ghost use Rattle.std.specs.List.{sum, list_all};
 ghost use Rattle.pas_program.specs.Each.{all_true, arm_of, constants, each_access, each_actual, each_arm, each_body, each_expr, each_item, each_statement, each_written};
+ghost use Rattle.pas_program.specs.Labels.{all_differ};
 ghost use Rattle.pas_program.specs.Size.{access_size, actual_size, expr_size, item_size, statement_size, written_size};
 ghost use Rattle.pas_program.specs.Tables.{holds_of};
 ghost use Rattle.pas_program.specs.Typed.{arm_types, arm_types_fit, body_types_fit, copy_fits, hosted, is_of_host, is_target, item_fits, loop_fits, passed, procedure_fits, reached, statement_types_fit, written_fits};
 ghost use Rattle.pas_program.specs.Types as types;
 ghost use Rattle.pas_valid.specs.Passing.{known, placed, arm_size, body_size};
+ghost use Rattle.pas_valid.specs.Standing.{fresh, has_label};
 
 use crate::expr::{in_host, spend};
 use crate::ground::Ground;
+use crate::refusal::Refusal;
 use pas_program::{Access, Actual, Arm, Body, Expr, Statement, VarKind, WriteItem, WriteValue};
 use sqlite_items::at;
+use std::alloc::AllocError;
+use std::collections::HashSet;
 
 pub fn all_below(numbers: &[u32], limit: usize) -> bool
     ensures { OnTrue result (list_all (λ a. nat_lt a limit) numbers.now ≡ true) }
@@ -37,23 +42,97 @@ fn all_in_host(boolean: bool, values: &[i32]) -> bool
     true
 }
 
+/// Puts constants into a set that has none of them.
+fn all_new(values: &[i32], seen: &mut HashSet<i32>) -> Result<(), Refusal>
+    ensures { OnOk result ((zs : List ℤ) → fresh seen.new zs ≡ true → fresh seen.old (values.now ++ zs) ≡ true) }
+{
+    for value in values {
+        is_new(value, seen)?;
+    }
+    Ok(())
+}
+
+fn is_new(value: &i32, seen: &mut HashSet<i32>) -> Result<(), Refusal>
+    ensures { OnOk result ((zs : List ℤ) → fresh seen.new zs ≡ true → fresh seen.old (value.now ∷ zs) ≡ true) }
+{
+    match seen.insert(*value) {
+        Ok(true) => Ok(()),
+        Ok(false) => Err(Refusal::Invalid),
+        Err(_) => Err(Refusal::Memory(AllocError)),
+    }
+}
+
 impl<'a> Ground<'a> {
     /// Whether a statement passes. `left` falls at least by the number of its parts.
     #[cycle(statement)]
-    pub fn statement(&self, s: &Statement, left: &mut u32) -> Option<()>
-        ensures types { OnSome result (statement_types_fit (known self.now) s.now ≡ true) }
-        ensures scopes { OnSome result (each_statement (placed self.now) s.now ≡ true) }
-        ensures size { OnSome result (statement_size s.now + left.new ≤ left.old) }
+    pub fn statement(&self, s: &Statement, left: &mut u32) -> Result<(), Refusal>
+        ensures types { OnOk result (statement_types_fit (known self.now) s.now ≡ true) }
+        ensures scopes { OnOk result (each_statement (placed self.now) s.now ≡ true) }
+        ensures size { OnOk result (statement_size s.now + left.new ≤ left.old) }
     {
-        spend(left)?;
-        if !all_below(s.asserts.as_slice(), self.asserts) {
-            return None;
+        if spend(left).is_none() || !all_below(s.asserts.as_slice(), self.asserts) {
+            return Err(Refusal::Invalid);
         }
         self.body(&s.body, left)
     }
 
     #[cycle(statement)]
-    fn body(&self, body: &Body, left: &mut u32) -> Option<()>
+    fn body(&self, body: &Body, left: &mut u32) -> Result<(), Refusal>
+        ensures types { OnOk result (body_types_fit (known self.now) body.now ≡ true) }
+        ensures scopes { OnOk result (each_body (placed self.now) body.now ≡ true) }
+        ensures size { OnOk result (body_size body.now + left.new ≤ left.old) }
+    {
+        match body {
+            Body::Begin { body, .. } => self.sequence(body.as_slice(), left),
+            Body::If { cond, yes, no } => {
+                if self.of_host(cond, true, left).is_none() {
+                    return Err(Refusal::Invalid);
+                }
+                self.statement(yes.get(), left)?;
+                match no {
+                    Some(no) => self.statement(no.get(), left),
+                    None => Ok(()),
+                }
+            }
+            Body::Case { of, arms } => match self.expr(of, left) {
+                Some(host) => self.arms(arms.as_slice(), host, left),
+                None => Err(Refusal::Invalid),
+            },
+            Body::While { cond, body } => {
+                if self.of_host(cond, true, left).is_none() {
+                    return Err(Refusal::Invalid);
+                }
+                self.statement(body.get(), left)
+            }
+            Body::Repeat { body, cond, .. } => {
+                self.sequence(body.as_slice(), left)?;
+                match self.of_host(cond, true, left) {
+                    Some(()) => Ok(()),
+                    None => Err(Refusal::Invalid),
+                }
+            }
+            Body::For {
+                control,
+                bound,
+                first,
+                last,
+                body,
+                ..
+            } => {
+                if self.bounds(*control, *bound, first, last, left).is_none() {
+                    return Err(Refusal::Invalid);
+                }
+                self.statement(body.get(), left)
+            }
+            _ => match self.simple(body, left) {
+                Some(()) => Ok(()),
+                None => Err(Refusal::Invalid),
+            },
+        }
+    }
+
+    /// Whether a body without statements in it passes.
+    fn simple(&self, body: &Body, left: &mut u32) -> Option<()>
         ensures types { OnSome result (body_types_fit (known self.now) body.now ≡ true) }
         ensures scopes { OnSome result (each_body (placed self.now) body.now ≡ true) }
         ensures size { OnSome result (body_size body.now + left.new ≤ left.old) }
@@ -69,89 +148,74 @@ impl<'a> Ground<'a> {
             } => self.procedure(*routine, actuals.as_slice(), left),
             Body::Read { to, .. } => self.targets(to.as_slice(), left),
             Body::Write { items, .. } => self.items(items.as_slice(), left),
-            Body::Goto { routine, .. } => {
-                if (*routine as usize) < self.routines.len() && self.is_around(*routine) {
-                    Some(())
-                } else {
-                    None
-                }
-            }
-            Body::Begin { body, .. } => self.sequence(body.as_slice(), left),
-            Body::If { cond, yes, no } => {
-                self.of_host(cond, true, left)?;
-                self.statement(yes.get(), left)?;
-                match no {
-                    Some(no) => self.statement(no.get(), left),
-                    None => Some(()),
-                }
-            }
-            Body::Case { of, arms } => {
-                let host = self.expr(of, left)?;
-                self.arms(arms.as_slice(), host, left)?;
-                Some(())
-            }
-            Body::While { cond, body } => {
-                self.of_host(cond, true, left)?;
-                self.statement(body.get(), left)
-            }
-            Body::Repeat { body, cond, .. } => {
-                self.sequence(body.as_slice(), left)?;
-                self.of_host(cond, true, left)?;
-                Some(())
-            }
-            Body::For {
-                control,
-                bound,
-                first,
-                last,
-                body,
-                ..
-            } => {
-                self.bounds(*control, *bound, first, last, left)?;
-                self.statement(body.get(), left)
-            }
+            Body::Goto { routine, label } => self.jump(*routine, *label),
+            _ => None,
+        }
+    }
+
+    /// Whether a `goto` to a label of a routine passes.
+    fn jump(&self, routine: u32, label: u32) -> Option<()>
+        ensures { OnSome result ((placed self.now).jump routine label ≡ true) }
+    {
+        let around = (routine as usize) < self.routines.len() && self.is_around(routine);
+        if around && self.has_label(routine, label) {
+            Some(())
+        } else {
+            None
+        }
+    }
+
+    fn has_label(&self, routine: u32, label: u32) -> bool
+        ensures { result ≡ has_label self.now.labels.now routine label }
+    {
+        match at(self.labels, routine as usize) {
+            Some(labels) => labels.contains(&label),
+            None => false,
         }
     }
 
     /// One statement or more.
     #[cycle(statement)]
-    fn sequence(&self, body: &[Statement], left: &mut u32) -> Option<()>
-        ensures some { OnSome result (nat_lt 0 (length body.now) ≡ true) }
-        ensures types { OnSome result (all_true (map (statement_types_fit (known self.now)) body.now) ≡ true) }
-        ensures scopes { OnSome result (all_true (map (each_statement (placed self.now)) body.now) ≡ true) }
-        ensures size { OnSome result (sum (map statement_size body.now) + left.new ≤ left.old) }
+    fn sequence(&self, body: &[Statement], left: &mut u32) -> Result<(), Refusal>
+        ensures some { OnOk result (nat_lt 0 (length body.now) ≡ true) }
+        ensures types { OnOk result (all_true (map (statement_types_fit (known self.now)) body.now) ≡ true) }
+        ensures scopes { OnOk result (all_true (map (each_statement (placed self.now)) body.now) ≡ true) }
+        ensures size { OnOk result (sum (map statement_size body.now) + left.new ≤ left.old) }
     {
         if body.is_empty() {
-            return None;
+            return Err(Refusal::Invalid);
         }
         for statement in body {
             self.statement(statement, left)?;
         }
-        Some(())
+        Ok(())
     }
 
     /// The arms of a `case` whose selector has this host.
     #[cycle(statement)]
-    fn arms(&self, arms: &[Arm], host: bool, left: &mut u32) -> Option<()>
-        ensures constants { OnSome result (list_all (types.in_host host) (constants (map (arm_types (known self.now)) arms.now)) ≡ true) }
-        ensures types { OnSome result (all_true (map (λ a. a.0) (map (arm_types (known self.now)) arms.now)) ≡ true) }
-        ensures scopes { OnSome result (all_true (map (λ a. a.0) (map (arm_of (placed self.now)) arms.now)) ≡ true) }
-        ensures size { OnSome result (sum (map arm_size arms.now) + left.new ≤ left.old) }
+    fn arms(&self, arms: &[Arm], host: bool, left: &mut u32) -> Result<(), Refusal>
+        ensures constants { OnOk result (list_all (types.in_host host) (constants (map (arm_types (known self.now)) arms.now)) ≡ true) }
+        ensures differ { OnOk result (all_differ (constants (map (arm_of (placed self.now)) arms.now)) ≡ true) }
+        ensures types { OnOk result (all_true (map (λ a. a.0) (map (arm_types (known self.now)) arms.now)) ≡ true) }
+        ensures scopes { OnOk result (all_true (map (λ a. a.0) (map (arm_of (placed self.now)) arms.now)) ≡ true) }
+        ensures size { OnOk result (sum (map arm_size arms.now) + left.new ≤ left.old) }
     {
+        let mut seen = HashSet::new(self.alloc);
         for arm in arms {
             if !all_in_host(host, arm.consts.as_slice()) {
-                return None;
+                return Err(Refusal::Invalid);
             }
+            all_new(arm.consts.as_slice(), &mut seen)?;
             self.arm(arm, left)?;
         }
-        Some(())
+        Ok(())
     }
 
     #[cycle(statement)]
-    fn arm(&self, arm: &Arm, left: &mut u32) -> Option<()>
-        ensures types { OnSome result (arm_types_fit (known self.now) arm.now ≡ true) }
-        ensures scopes { OnSome result (each_arm (placed self.now) arm.now ≡ true) }
-        ensures size { OnSome result (arm_size arm.now + left.new ≤ left.old) }
+    fn arm(&self, arm: &Arm, left: &mut u32) -> Result<(), Refusal>
+        ensures types { OnOk result (arm_types_fit (known self.now) arm.now ≡ true) }
+        ensures scopes { OnOk result (each_arm (placed self.now) arm.now ≡ true) }
+        ensures size { OnOk result (arm_size arm.now + left.new ≤ left.old) }
     {
         self.statement(&arm.body, left)
     }

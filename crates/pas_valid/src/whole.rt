@@ -1,20 +1,25 @@
 //! Whether parts make a valid program.
 
-ghost use Rattle.std.specs.Prelude.{◌≡◌, ◌+◌, ◌≤◌, ℕ, IfOk, IfSome, OnSome, Some, length, map, slice_get, true};
+ghost use Rattle.std.specs.Prelude.{◌≡◌, ◌+◌, ◌<◌, ◌≤◌, ℕ, IfOk, IfSome, OnOk, OnSome, Some, length, map, slice_get, true};
 ghost use Rattle.std.specs.List.{sum};
 ghost use Rattle.pas_program.specs.Checked.{tables};
-ghost use Rattle.pas_program.specs.Labels.{ControlsAreLocal};
+ghost use Rattle.pas_program.specs.Each.{each_expr};
+ghost use Rattle.pas_program.specs.Labels.{AssertsStand, ConstantsDiffer, ControlsAreLocal, LabelsStand, call_free_rule, count_asserted};
 ghost use Rattle.pas_program.specs.Tables.{tables_of};
 ghost use Rattle.pas_program.specs.Size.{expr_size, statement_size};
 ghost use Rattle.pas_program.specs.Valid.{Bounded, InRange, InScope, WellTyped, counts_of, var_in_range};
+ghost use Rattle.pas_valid.specs.Standing.{LabelsAre};
 ghost use Rattle.pas_valid.specs.Whole as whole;
 
 use crate::ground::Ground;
 use crate::parts::Parts;
+use crate::refusal::Refusal;
+use crate::standing::{no_marks, standing_with};
 use crate::type_list::TypeList;
-use pas_program::{Assert, Program, Routine, VarDef};
+use pas_program::{Assert, Program, Routine, TypeDef, VarDef};
 use sqlite_items::{Items, at};
 use std::alloc::{AllocError, Global};
+use std::collections::HashSet;
 
 /// The most parts, variables and types that a program may have.
 const MOST_PARTS: u32 = 8_388_608;
@@ -46,21 +51,21 @@ impl<'a> Parts<'a> {
         }
     }
 
-    fn routines(&self, left: &mut u32) -> Option<()>
-        ensures fit { OnSome result ((r : ℕ) (d : Routine) → slice_get self.now.routines.now r ≡ Some d → whole.RoutineFits self.now.types.now self.now.vars.now self.now.routines.now self.now.asserts.now self.now.ranks.now r d) }
-        ensures size { OnSome result (sum (map (λ (d : Routine). statement_size d.body) self.now.routines.now) + left.new ≤ left.old) }
+    fn routines(&self, left: &mut u32) -> Result<(), Refusal>
+        ensures fit { OnOk result ((r : ℕ) (d : Routine) → slice_get self.now.routines.now r ≡ Some d → whole.RoutineFits self.now.types.now self.now.vars.now self.now.routines.now self.now.asserts.now self.now.labels.now self.now.ranks.now r d) }
+        ensures size { OnOk result (sum (map (λ (d : Routine). statement_size d.body) self.now.routines.now) + left.new ≤ left.old) }
     {
         for (r, d) in self.routines.iter().enumerate() {
             if r > MOST_PARTS as usize {
-                return None;
+                return Err(Refusal::Invalid);
             }
             self.routine(r as u32, d, left)?;
         }
-        Some(())
+        Ok(())
     }
 
     fn asserts(&self, left: &mut u32) -> Option<()>
-        ensures fit { OnSome result ((a : ℕ) (d : Assert) → slice_get self.now.asserts.now a ≡ Some d → whole.AssertFits self.now.types.now self.now.vars.now self.now.routines.now self.now.asserts.now d) }
+        ensures fit { OnSome result ((a : ℕ) (d : Assert) → slice_get self.now.asserts.now a ≡ Some d → whole.AssertFits self.now.types.now self.now.vars.now self.now.routines.now self.now.asserts.now self.now.labels.now d) }
         ensures size { OnSome result (sum (map (λ (d : Assert). expr_size d.cond) self.now.asserts.now) + left.new ≤ left.old) }
     {
         for d in self.asserts {
@@ -70,40 +75,50 @@ impl<'a> Parts<'a> {
     }
 
     fn assert(&self, d: &Assert, left: &mut u32) -> Option<()>
-        ensures fits { OnSome result (whole.AssertFits self.now.types.now self.now.vars.now self.now.routines.now self.now.asserts.now d.now) }
+        ensures fits { OnSome result (whole.AssertFits self.now.types.now self.now.vars.now self.now.routines.now self.now.asserts.now self.now.labels.now d.now) }
         ensures size { OnSome result (expr_size d.now.cond + left.new ≤ left.old) }
     {
         if d.routine as usize >= self.routines.len() {
             return None;
         }
         let ground = Ground {
+            alloc: self.alloc,
             types: self.types,
             vars: self.vars,
             routines: self.routines,
+            labels: self.labels,
             asserts: self.asserts.len(),
             routine: d.routine,
+            calls: false,
         };
         ground.of_host(&d.cond, true, left)?;
         Some(())
     }
 
     /// Whether the parts are valid, apart from the list of types.
-    fn valid(&self) -> Option<()>
-        ensures in_range { OnSome result (InRange self.now.types.now self.now.vars.now self.now.routines.now self.now.asserts.now) }
-        ensures well_typed { OnSome result (WellTyped self.now.types.now self.now.vars.now self.now.routines.now self.now.asserts.now) }
-        ensures in_scope { OnSome result (InScope self.now.types.now self.now.vars.now self.now.routines.now self.now.asserts.now) }
-        ensures bounded { OnSome result (Bounded self.now.types.now self.now.vars.now self.now.routines.now self.now.asserts.now) }
-        ensures controls { OnSome result (ControlsAreLocal (tables_of self.now.types.now self.now.vars.now self.now.routines.now) self.now.routines.now) }
+    fn valid(&self) -> Result<(), Refusal>
+        ensures in_range { OnOk result (InRange self.now.types.now self.now.vars.now self.now.routines.now self.now.asserts.now) }
+        ensures well_typed { OnOk result (WellTyped self.now.types.now self.now.vars.now self.now.routines.now self.now.asserts.now) }
+        ensures in_scope { OnOk result (InScope self.now.types.now self.now.vars.now self.now.routines.now self.now.asserts.now) }
+        ensures bounded { OnOk result (Bounded self.now.types.now self.now.vars.now self.now.routines.now self.now.asserts.now) }
+        ensures controls { OnOk result (ControlsAreLocal (tables_of self.now.types.now self.now.vars.now self.now.routines.now) self.now.routines.now) }
+        ensures constants { OnOk result (ConstantsDiffer self.now.routines.now) }
+        ensures labels { OnOk result (LabelsAre self.now.routines.now self.now.labels.now → LabelsStand self.now.routines.now) }
+        ensures calls { OnOk result ((a : ℕ) (d : Assert) → slice_get self.now.asserts.now a ≡ Some d → each_expr call_free_rule d.cond ≡ true) }
     {
         let most = MOST_PARTS as usize;
         if self.types.len() > most || self.vars.len() > most || self.routines.len() == 0 {
-            return None;
+            return Err(Refusal::Invalid);
         }
         let mut left = MOST_PARTS;
-        self.vars()?;
+        if self.vars().is_none() {
+            return Err(Refusal::Invalid);
+        }
         self.routines(&mut left)?;
-        self.asserts(&mut left)?;
-        Some(())
+        match self.asserts(&mut left) {
+            Some(()) => Ok(()),
+            None => Err(Refusal::Invalid),
+        }
     }
 }
 
@@ -129,6 +144,20 @@ fn rank(ranks: &mut [u32], vars: &[u32]) {
     }
 }
 
+/// The labels of each routine, where no routine has one twice and each assertion stands once, in its routine.
+fn standing(
+    alloc: Global,
+    routines: &[Routine],
+    asserts: &[Assert],
+) -> Result<Vec<HashSet<u32>>, Refusal>
+    ensures labels { IfOk result (λ sets. LabelsAre routines.now sets.items) }
+    ensures once { OnOk result ((a : ℕ) → a < length asserts.now → sum (map (λ (d : Routine). count_asserted a d.body) routines.now) ≡ 1) }
+    ensures own { OnOk result ((a : ℕ) (d : Assert) (e : Routine) → slice_get asserts.now a ≡ Some d → slice_get routines.now d.routine ≡ Some e → count_asserted a e.body ≡ 1) }
+{
+    let mut marks = no_marks(alloc, asserts.len())?;
+    standing_with(alloc, routines, asserts, marks.as_mut_slice())
+}
+
 /// The program of these parts where they are valid, and else none.
 pub fn program_of(
     alloc: Global,
@@ -142,19 +171,55 @@ pub fn program_of(
     ensures routines { IfOk result (λ o. IfSome o (λ p. p.routines ≡ routines)) }
     ensures asserts { IfOk result (λ o. IfSome o (λ p. p.asserts ≡ asserts)) }
     ensures controls { IfOk result (λ o. IfSome o (λ p. ControlsAreLocal (tables p) p.routines)) }
+    ensures labels { IfOk result (λ o. IfSome o (λ p. LabelsStand p.routines)) }
+    ensures constants { IfOk result (λ o. IfSome o (λ p. ConstantsDiffer p.routines)) }
+    ensures assertions { IfOk result (λ o. IfSome o (λ p. AssertsStand p.routines p.asserts)) }
 {
     let ranks = ranks(alloc, vars.len(), routines.as_slice())?;
-    let parts = Parts {
-        types: types.list.as_slice(),
-        vars: vars.as_slice(),
-        routines: routines.as_slice(),
-        asserts: asserts.as_slice(),
-        ranks: ranks.as_slice(),
-    };
-    let valid = parts.valid();
-    if valid.is_none() {
-        return Ok(None);
+    match valid_with(
+        alloc,
+        types.list.as_slice(),
+        vars.as_slice(),
+        routines.as_slice(),
+        asserts.as_slice(),
+        ranks.as_slice(),
+    ) {
+        Ok(()) => {
+            let TypeList { list } = types;
+            Ok(Some(Program::new(list, vars, routines, asserts)))
+        }
+        Err(Refusal::Invalid) => Ok(None),
+        Err(Refusal::Memory(error)) => Err(error),
     }
-    let TypeList { list } = types;
-    Ok(Some(Program::new(list, vars, routines, asserts)))
+}
+
+/// Whether the parts are valid, with these places of the variables in the lists of their routines.
+fn valid_with(
+    alloc: Global,
+    types: &[TypeDef],
+    vars: &[VarDef],
+    routines: &[Routine],
+    asserts: &[Assert],
+    ranks: &[u32],
+) -> Result<(), Refusal>
+    ensures in_range { OnOk result (InRange types.now vars.now routines.now asserts.now) }
+    ensures well_typed { OnOk result (WellTyped types.now vars.now routines.now asserts.now) }
+    ensures in_scope { OnOk result (InScope types.now vars.now routines.now asserts.now) }
+    ensures bounded { OnOk result (Bounded types.now vars.now routines.now asserts.now) }
+    ensures controls { OnOk result (ControlsAreLocal (tables_of types.now vars.now routines.now) routines.now) }
+    ensures labels { OnOk result (LabelsStand routines.now) }
+    ensures constants { OnOk result (ConstantsDiffer routines.now) }
+    ensures assertions { OnOk result (AssertsStand routines.now asserts.now) }
+{
+    let sets = standing(alloc, routines, asserts)?;
+    let parts = Parts {
+        alloc,
+        types,
+        vars,
+        routines,
+        asserts,
+        labels: sets.as_slice(),
+        ranks,
+    };
+    parts.valid()
 }

@@ -8,5 +8,5 @@ use Rattle.pas_valid.proofs.parts.Parts.routines.Given as goal
 
 abbrev pub invariant-loop-r : goal.invariant-loop-r
 invariant-loop-r l =
-    ((j : ℕ) (d : Routine) → j < l.r → slice_get l.self.routines.now j ≡ Some d → RoutineFits l.self.types.now l.self.vars.now l.self.routines.now l.self.asserts.now l.self.ranks.now j d)
+    ((j : ℕ) (d : Routine) → j < l.r → slice_get l.self.routines.now j ≡ Some d → RoutineFits l.self.types.now l.self.vars.now l.self.routines.now l.self.asserts.now l.self.labels.now l.self.ranks.now j d)
     × Spent (λ (d : Routine). statement_size d.body) l.self.routines.now l.r l.initial.left l.left
