@@ -128,7 +128,7 @@ module _ (text : List ℕ) (told : Option (Option (List ℕ))) (read : ForFile t
     bytes = is.bytes;
     is_input = is.is_input;
     ended = is.ended;
-    is_end = is.is_end;
+    ends = is.ends;
     is_status = is.is_status;
     is_text = is.is_text;
   }
@@ -159,7 +159,7 @@ ran_on_input file text bytes steps input (Ok due) read to is =
       bytes = is.bytes;
       is_input = record { given = λ known e. is.is_input.given bytes refl ∙ read known e; within = is.is_input.within };
       ended = is.ended;
-      is_end = is.is_end;
+      ends = is.ends;
       is_status = is.is_status;
       is_text = is.is_text;
     }))

@@ -76,6 +76,10 @@ status_of ending.OutOfSteps = OutOfSteps
 abbrev pub IsRunStatus : Status → Type 0
 IsRunStatus status = (ending : Ending) × (status ≡ status_of ending)
 
+-- How the run of a flow on the bytes of an input ends, after at most so many steps.
+abbrev pub Ends : Flow → List ℕ → ℕ → Ended → Type 0
+Ends flow bytes steps ended = IsEnd (chart_of flow) (items_of bytes) steps ended
+
 -- The text is that of the run of the file's program on the items of the input, of at most so many steps, and the status is
 -- that of its end.
 pub record IsRun (file : Option (Option (List ℕ))) (input : Option (List ℕ)) (steps : ℕ) (status : Status) (text : List ℕ) : Type 0 where
@@ -85,7 +89,7 @@ pub record IsRun (file : Option (Option (List ℕ))) (input : Option (List ℕ))
   pub bytes : List ℕ
   pub is_input : IsInputOf input bytes
   pub ended : Ended
-  pub is_end : IsEnd (chart_of flow) (items_of bytes) steps ended
+  pub ends : Ends flow bytes steps ended
   pub is_status : status ≡ status_of ended.ending
   pub is_text : text ≡ run_text source ended
 

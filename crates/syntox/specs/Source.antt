@@ -10,6 +10,7 @@ use Rattle.pas_parser.specs.declared.fault.ParseFault.TheVariants.{NoRule, TooDe
 use Rattle.pas_tree.specs.declared.block.Tree.{Tree}
 use Rattle.pas_program.specs.Checked.{tables}
 use Rattle.pas_program.specs.Labels.{ControlsAreLocal}
+use Rattle.pas_program.specs.declared.program.Program.{Program}
 use Rattle.pas_check.specs.Fault.{IsWithin}
 use Rattle.pas_check.specs.declared.fault.CheckFault.TheVariants.{Wrong}
 use Rattle.control_points.specs.declared.flow.Flow.{Flow}
@@ -27,12 +28,16 @@ pub record IsTreeOf (text : List ℕ) (tree : Tree) : Type 0 where
   pub is_read : program tokens ≡ Ok tree
   pub is_program : IsProgram tokens tree
 
--- The flow of a source: it is one of a program that was made of the source's tree. Of that program it is told here that its
--- control variables are local, and by its type that its numbers, types and scopes fit.
+-- What is known of a program that the checker answers, beside what its type says: that its numbers, types and scopes fit.
+pub record IsChecked (checked : Program) : Type 0 where
+  pub controls : ControlsAreLocal (tables checked) checked.routines
+
+-- The flow of a source: the source has a tree, and the flow is of a program that the checker answered. That this is the
+-- program of that tree is not told here.
 pub record IsFlowOf (text : List ℕ) (flow : Flow) : Type 0 where
   pub tree : Tree
   pub is_tree : IsTreeOf text tree
-  pub controls : ControlsAreLocal (tables flow.program) flow.program.routines
+  pub is_checked : IsChecked flow.program
 
 -- ---- faults
 

@@ -13,7 +13,7 @@ returns-clause-run c = record {
   bytes = c.args.input.now;
   is_input = record { given = (λ known e. cc); within = c.requires.input };
   ended = c.in_ok-ended.ended;
-  is_end = subst (λ (items : List Item). IsEnd (chart_of c.args.flow.now) items c.args.steps c.in_ok-ended.ended) (c.deref.ensures.value ∙ c.in_ok-items.ensures.items) c.in_ok-ended.ensures;
+  ends = subst (λ (items : List Item). IsEnd (chart_of c.args.flow.now) items c.args.steps c.in_ok-ended.ended) (c.deref.ensures.value ∙ c.in_ok-items.ensures.items) c.in_ok-ended.ensures;
   is_status = c.status_of-status.ensures;
   is_text = c.in_ok-text.ensures;
 }

@@ -1,8 +1,6 @@
 use Rattle.std.proofs.Common.{sym, subst}
-use Rattle.pas_program.specs.Checked.{tables}
-use Rattle.pas_program.specs.Labels.{ControlsAreLocal}
-use Rattle.pas_program.specs.declared.program.Program.{Program}
 use Rattle.syntox.proofs.Faults.{tree_of}
+use Rattle.syntox.specs.Source.{IsChecked}
 use Rattle.syntox.proofs.source.flow_of.Goals as goal
 
 pub returns-in-Err-clause-fault : goal.returns-in-Err-clause-fault
@@ -24,5 +22,5 @@ pub returns-in-Ok-build-clause-flow : goal.returns-in-Ok-build-clause-flow
 returns-in-Ok-build-clause-flow c = record {
   tree = c.in-Ok-parse.tree;
   is_tree = tree_of c.args.text.now c.deref.result.now c.in-Ok.tokens.items c.in-Ok-parse.tree c.deref.ensures.value c.in-Ok.ensures.tokens c.in-Ok-parse.ensures.value c.in-Ok-parse.ensures.grammar;
-  controls = subst (λ (p : Program). ControlsAreLocal (tables p) p.routines) (sym c.in-Ok-build.ensures.program) c.in-Ok-check.ensures.controls;
+  is_checked = subst IsChecked (sym c.in-Ok-build.ensures.program) (record { controls = c.in-Ok-check.ensures.controls });
 }
