@@ -1,7 +1,3 @@
-use Rattle.std.proofs.Common.{subst, ◌∙◌, List}
-use Rattle.control_points.specs.Flows.{chart_of}
-use Rattle.control_points.specs.declared.item.Item.{Item}
-use Rattle.interp.specs.RunText.{IsEnd}
 use Rattle.syntox.proofs.Owed.{source_of}
 use Rattle.syntox.proofs.run.run_on.Goals as goal
 
@@ -13,7 +9,7 @@ returns-clause-run c = record {
   bytes = c.args.input.now;
   is_input = record { given = (λ known e. cc); within = c.requires.input };
   ended = c.in_ok-ended.ended;
-  ends = subst (λ (items : List Item). IsEnd (chart_of c.args.flow.now) items c.args.steps c.in_ok-ended.ended) (c.deref.ensures.value ∙ c.in_ok-items.ensures.items) c.in_ok-ended.ensures;
+  ends = c.in_ok-ended.ensures.bounded;
   is_status = c.status_of-status.ensures;
   is_text = c.in_ok-text.ensures;
 }
