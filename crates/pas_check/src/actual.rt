@@ -189,12 +189,7 @@ impl<'t> Seen<'t> {
     /// Tests a place that writes a whole variable. A threat by a routine inside the variable's own is kept for the `for`
     /// that comes later.
     #[tactic(auto, unfolding(crate::specs::Expr::threatened, crate::specs::Sight::sight))]
-    pub fn threaten(
-        &self,
-        made: &mut Made,
-        whole: Option<Variable>,
-        at: u32,
-    ) -> Result<(), Fault>
+    pub fn threaten(&self, made: &mut Made, whole: Option<Variable>, at: u32) -> Result<(), Fault>
         ensures value { Gives (λ u. u) (spec.threatened (sight self.now) whole at) result }
     {
         let Some(variable) = whole else {

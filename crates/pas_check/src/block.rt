@@ -76,7 +76,8 @@ impl<'t> Checker<'t> {
         for decl in decls {
             self.seen.claim(&mut self.made, decl.name)?;
             let value = self.seen.constant(&mut self.made, &decl.value)?;
-            self.seen.define(&mut self.made, decl.name, Meaning::Constant(value))?;
+            self.seen
+                .define(&mut self.made, decl.name, Meaning::Constant(value))?;
         }
         Ok(())
     }
@@ -85,7 +86,8 @@ impl<'t> Checker<'t> {
         for decl in decls {
             self.seen.claim(&mut self.made, decl.name)?;
             let number = self.type_expr(&decl.of_type)?;
-            self.seen.define(&mut self.made, decl.name, Meaning::Type(number))?;
+            self.seen
+                .define(&mut self.made, decl.name, Meaning::Type(number))?;
         }
         Ok(())
     }
@@ -96,7 +98,8 @@ impl<'t> Checker<'t> {
             let of_type = self.type_expr(&decl.of_type)?;
             for name in decl.names.as_slice() {
                 let variable = self.made.variable(*name, VarKind::Local, of_type)?;
-                self.seen.define(&mut self.made, *name, Meaning::Variable(variable))?;
+                self.seen
+                    .define(&mut self.made, *name, Meaning::Variable(variable))?;
             }
         }
         Ok(())

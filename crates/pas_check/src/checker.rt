@@ -134,9 +134,24 @@ fn required(alloc: Global, routine: u32) -> Result<Scope, AllocError> {
     require(alloc, &mut scope, "pred", Meaning::Required(Required::Pred))?;
     require(alloc, &mut scope, "ord", Meaning::Required(Required::Ord))?;
     require(alloc, &mut scope, "read", Meaning::Transput(Transput::Read))?;
-    require(alloc, &mut scope, "readln", Meaning::Transput(Transput::Readln))?;
-    require(alloc, &mut scope, "write", Meaning::Transput(Transput::Write))?;
-    require(alloc, &mut scope, "writeln", Meaning::Transput(Transput::Writeln))?;
+    require(
+        alloc,
+        &mut scope,
+        "readln",
+        Meaning::Transput(Transput::Readln),
+    )?;
+    require(
+        alloc,
+        &mut scope,
+        "write",
+        Meaning::Transput(Transput::Write),
+    )?;
+    require(
+        alloc,
+        &mut scope,
+        "writeln",
+        Meaning::Transput(Transput::Writeln),
+    )?;
     Ok(scope)
 }
 

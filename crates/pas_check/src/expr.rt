@@ -157,12 +157,7 @@ impl<'t> Seen<'t> {
     /// An expression of this host.
     #[tactic(auto, unfolding(crate::specs::Expr::of_host))]
     #[cycle(expr)]
-    pub fn of_host(
-        &self,
-        made: &mut Made,
-        e: &pas_tree::Expr,
-        boolean: bool,
-    ) -> Result<Expr, Fault>
+    pub fn of_host(&self, made: &mut Made, e: &pas_tree::Expr, boolean: bool) -> Result<Expr, Fault>
         ensures value { Gives (λ x. tt) (spec.of_host boolean (found (sight self.now) e.now)) result }
     {
         let (expr, host) = self.scalar(made, e)?;

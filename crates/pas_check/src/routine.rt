@@ -209,7 +209,8 @@ impl<'t> Checker<'t> {
         heading_allowed(routine, self.made.frame.level)?;
         let head = self.seen.heads.len();
         let function = routine.function;
-        self.seen.define(&mut self.made, name, Meaning::Routine { head, function })?;
+        self.seen
+            .define(&mut self.made, name, Meaning::Routine { head, function })?;
         let mut scope = Scope::new(self.seen.alloc, number);
         self.note_formals(&mut scope, routine.formals.as_slice())?;
         if let Some(block) = block {
@@ -281,7 +282,8 @@ impl<'t> Checker<'t> {
     ) -> Result<(), Fault> {
         let kind = if by_var { VarKind::Var } else { VarKind::Value };
         let variable = self.made.add_variable(name, head.routine, kind, of_type)?;
-        self.seen.define(&mut self.made, name, Meaning::Variable(variable))?;
+        self.seen
+            .define(&mut self.made, name, Meaning::Variable(variable))?;
         head.numbers.push(variable.number).map_err(Fault::Memory)?;
         push_formal(&mut head.formals, Formal { by_var, of_type }).map_err(Fault::Memory)
     }

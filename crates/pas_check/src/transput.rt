@@ -31,12 +31,7 @@ fn unquoted(alloc: Global, quoted: &[u8]) -> Result<Items<u8>, AllocError> {
 
 impl<'t> Seen<'t> {
     /// A procedure with its actuals.
-    pub fn call(
-        &self,
-        made: &mut Made,
-        name: Span,
-        actuals: &[Actual],
-    ) -> Result<Body, Fault> {
+    pub fn call(&self, made: &mut Made, name: Span, actuals: &[Actual]) -> Result<Body, Fault> {
         match self.meaning(made, name)? {
             Meaning::Routine {
                 head,
