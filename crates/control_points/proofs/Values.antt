@@ -1,13 +1,12 @@
 -- The value of an expression, by what it is, and values of small expressions that are known from the language.
-use Rattle.std.proofs.Common.{◌≡◌, ℕ, List, [], ◌∷◌, ℤ, pos, negsuc, map, refl, sym, ap, ◌∙◌, Option, Some, None, Result, Ok, Err, Bool, false, true, nat_eq, if◌then◌else◌}
+use Rattle.std.proofs.Common.{◌≡◌, ℕ, List, [], ◌∷◌, ℤ, pos, negsuc, map, ap, ◌∙◌, Option, Some, None, Ok, Err, Bool, false, nat_eq, if◌then◌else◌}
 use Rattle.px_base.specs.declared.kind.Kind.TheVariants as kinds
 use Rattle.px_base.specs.declared.operator.BinOp.{BinOp}
 use Rattle.px_base.specs.declared.operator.BinOp.TheVariants as binary
 use Rattle.px_base.specs.declared.operator.UnOp.{UnOp}
-use Rattle.px_base.specs.declared.operator.UnOp.TheVariants as unary
 use Rattle.arithmetic.specs.Operators.{binary_result, unary_result}
 use Rattle.pas_program.specs.declared.expr.Access.{Access}
-use Rattle.pas_program.specs.declared.expr.Actual.TheOpen.{Access-F, Actual-F, ExprForm-F, Expr-F}
+use Rattle.pas_program.specs.declared.expr.Actual.TheOpen.{ExprForm-F}
 use Rattle.pas_program.specs.declared.expr.Actual.TheFolds.{fold-Expr, fold-ExprForm, fold-roll-Access, fold-roll-Expr, fold-roll-ExprForm}
 use Rattle.pas_program.specs.declared.expr.Actual.TheViews.{roll-Access, roll-Expr, roll-ExprForm}
 use Rattle.pas_program.specs.declared.expr.Expr.{Expr}
@@ -16,9 +15,8 @@ use Rattle.pas_program.specs.declared.type_def.TypeDef.{TypeDef}
 use Rattle.pas_program.specs.declared.type_def.TypeDef.TheVariants.{Scalar, Array}
 use Rattle.pas_program.specs.declared.variable.VarDef.{VarDef}
 use Rattle.pas_program.specs.declared.variable.VarKind.TheVariants as var
-use Rattle.pas_program.specs.Tables.{Tables}
 use Rattle.control_points.specs.Evaluation.{Answer, View, Spot, Valued, then_with, placed, used, value, spot, subscript_values, var_type, form_step, access_step, expr_step}
-use Rattle.control_points.specs.Storage.{Place, Store, whole, part, put, empty_store}
+use Rattle.control_points.specs.Storage.{whole, part, put, empty_store}
 
 -- ---- by what it is
 

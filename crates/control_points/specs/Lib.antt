@@ -7,7 +7,10 @@ pub mod Evaluation
 pub mod Finding
 pub mod Fits
 pub mod Flows
+pub mod Foreseen
 pub mod Input
+pub mod Leading
+pub mod Matching
 pub mod Output
 pub mod Runs
 pub mod Sites
@@ -15,3 +18,4 @@ pub mod States
 pub mod Steps
 pub mod Storage
 pub mod ValidStates
+pub mod WellFormed

@@ -21,5 +21,10 @@ pub use edge::{Act, Edge};
 pub use fault::Fault;
 pub use flow::Flow;
 pub use item::Item;
-pub use laws::earlier_is_on_the_way;
+pub use laws::{
+    a_run_halts_at_its_exit_alone, each_activation_was_made, each_error_is_foreseen,
+    each_step_follows_an_edge, earlier_is_on_the_way, flows_are_well_formed, next_is_valid,
+    only_a_case_may_have_no_action, runs_are_valid, spots_exist, start_is_valid,
+    values_lie_in_their_hosts, variables_exist,
+};
 pub use point::{Point, PointKind};

@@ -1,6 +1,12 @@
 pub mod Adjacency
-pub mod Check
+pub mod Counts
 pub mod Edges
+pub mod Found
+pub mod Listing
 pub mod Order
 pub mod Parts
+pub mod Queue
+pub mod Rank
+pub mod Sorting
+pub mod Turn
 pub mod Walk

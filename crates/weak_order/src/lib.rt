@@ -2,12 +2,14 @@
 #![tactic(auto)]
 
 mod adjacency;
-mod check;
+mod columns;
+mod counts;
 mod edges;
 mod laws;
 mod listing;
 mod nesting;
 mod parts;
+mod queue;
 mod readers;
 mod walk;
 
