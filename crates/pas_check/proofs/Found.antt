@@ -6,7 +6,7 @@ use Rattle.pas_tree.specs.Expr.{expr_span, span_of_form}
 use Rattle.pas_tree.specs.declared.expr.Access.{Access}
 use Rattle.pas_tree.specs.declared.expr.Actual.{Actual}
 use Rattle.pas_tree.specs.declared.expr.ActualValue.{ActualValue}
-use Rattle.pas_tree.specs.declared.expr.ActualValue.TheOpen.{ActualValue-F, Expr-F, Access-F, Actual-F}
+use Rattle.pas_tree.specs.declared.expr.ActualValue.TheOpen.{ActualValue-F, Expr-F}
 use Rattle.pas_tree.specs.declared.expr.ActualValue.TheFolds.{fold_out-Access, fold_out-Expr, fold_out-Actual, fold-roll-ActualValue, fold-roll-Expr, map-Actual, map-Expr}
 use Rattle.pas_tree.specs.declared.expr.ActualValue.TheViews.{out-Access, out-Expr, out-Actual}
 use Rattle.pas_tree.specs.declared.expr.ActualValue.TheVariants as written

@@ -1,5 +1,5 @@
 -- Actuals and subscripts, one after the other.
-use Rattle.std.proofs.Common.{◌≡◌, ℕ, zero, suc, ◌+◌, ◌<◌, ◌≤◌, List, [], ◌∷◌, length, get_or, drop, map, refl, sym, ap, subst, ◌∙◌, arith, add-one, Option, Some, None, Result, Ok, Err, if◌then◌else◌, nat_eq}
+use Rattle.std.proofs.Common.{◌≡◌, ℕ, zero, suc, ◌+◌, ◌<◌, List, [], ◌∷◌, length, get_or, drop, map, refl, sym, ap, subst, ◌∙◌, arith, add-one, Some, None, Ok, Err, if◌then◌else◌, nat_eq}
 use Rattle.std.proofs.Math.Seq.{drop-cons}
 use Rattle.std.specs.List.{slice_get}
 use Rattle.pas_tree.specs.declared.expr.Actual.{Actual}
@@ -8,7 +8,7 @@ use Rattle.pas_check.specs.declared.actual.Formal.{Formal}
 use Rattle.pas_check.specs.declared.fault.Fault.{Fault}
 use Rattle.pas_check.specs.declared.fault.Rule.TheVariants as rule
 use Rattle.pas_check.specs.declared.meaning.Variable.{Variable}
-use Rattle.pas_check.specs.Expr.{Found, Place, all_passed, element, first_of, found, given, led, lower_first, others, passed, reached, subscript}
+use Rattle.pas_check.specs.Expr.{all_passed, element, first_of, found, given, led, lower_first, others, passed, reached, subscript}
 use Rattle.pas_check.specs.Outcome.{Gives, IsBroken, Outcome, ◌>>=◌}
 use Rattle.pas_check.specs.Sight.{Sight, parts_at}
 use Rattle.pas_check.specs.Statement.{all_read, read_into}

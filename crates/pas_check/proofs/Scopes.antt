@@ -1,10 +1,10 @@
 -- Blocks from the outside to the inside, and from the inside to the outside.
-use Rattle.std.proofs.Common.{◌≡◌, ℕ, zero, suc, List, [], ◌∷◌, ◌++◌, length, map, reverse, refl, sym, ap, ◌∙◌, arith, Option, Some, None}
+use Rattle.std.proofs.Common.{◌≡◌, List, [], ◌∷◌, ◌++◌, length, map, reverse, refl, ap, ◌∙◌, arith, Option, Some, None}
 use Rattle.std.proofs.lemmas.List.{reverse-append}
 use Rattle.pas_check.specs.declared.scope.Scope.{Scope}
 use Rattle.pas_check.specs.Labels.{first_scope}
 use Rattle.pas_check.specs.Names.{Names}
-use Rattle.pas_check.specs.Sight.{innermost, names_around}
+use Rattle.pas_check.specs.Sight.{innermost}
 
 pub no_scopes : (scopes : List Scope) → length scopes ≡ 0 → scopes ≡ []
 no_scopes [] e = refl

@@ -1,5 +1,5 @@
 -- The value of a constant, or the first rule that it breaks (ISO 7185, 6.3).
-use Rattle.std.specs.Prelude.{◌≡◌, ℕ, Bool, true, false, nat_le, ℤ, pos, neg_ℤ, Option, Some, None, Ok, Err, if◌then◌else◌}
+use Rattle.std.specs.Prelude.{ℕ, false, nat_le, ℤ, pos, Option, Some, None, Ok, if◌then◌else◌}
 use Rattle.std.specs.Int.{int_wrapping_neg, w32}
 use Rattle.px_base.specs.declared.place.Span.{Span}
 use Rattle.pas_program.specs.Types.{maxint}
@@ -8,9 +8,7 @@ use Rattle.pas_tree.specs.declared.constant.ConstantValue.{ConstantValue}
 use Rattle.pas_tree.specs.declared.constant.ConstantValue.TheVariants as written
 use Rattle.pas_tree.specs.declared.constant.Sign.{Sign}
 use Rattle.pas_tree.specs.declared.constant.Sign.TheVariants as sign
-use Rattle.pas_check.specs.declared.fault.Fault.TheVariants.{Broken, Memory}
 use Rattle.pas_check.specs.declared.fault.Rule.TheVariants as rule
-use Rattle.pas_check.specs.declared.meaning.Meaning.{Meaning}
 use Rattle.pas_check.specs.declared.meaning.Value.{Value}
 use Rattle.pas_check.specs.Expr.{meant}
 use Rattle.pas_check.specs.Outcome.{Outcome, ◌>>=◌, needed, unless}

@@ -1,6 +1,6 @@
 -- The type of an expression, or the first rule that it breaks (ISO 7185, 6.5, 6.6.3 and 6.7). A rule that needs the type of a part
 -- is not asked where the part itself breaks a rule.
-use Rattle.std.specs.Prelude.{◌≡◌, ℕ, Bool, true, false, ◌&&◌, not, nat_eq, nat_lt, List, [], ◌∷◌, length, map, Option, Some, None, Result, Ok, Err, slice_get, if◌then◌else◌}
+use Rattle.std.specs.Prelude.{ℕ, Bool, true, false, ◌&&◌, not, nat_eq, nat_lt, List, [], ◌∷◌, length, Option, Some, None, Result, Ok, Err, slice_get, if◌then◌else◌}
 use Rattle.std.specs.Bool.{beq}
 use Rattle.std.specs.Option.{option_map}
 use Rattle.px_base.specs.declared.operator.BinOp.{BinOp}
@@ -13,7 +13,6 @@ use Rattle.pas_tree.specs.declared.expr.ActualValue.{ActualValue}
 use Rattle.pas_tree.specs.declared.expr.ActualValue.TheOpen.{ActualValue-F, Expr-F, Access-F, Actual-F}
 use Rattle.pas_tree.specs.declared.expr.ActualValue.TheFolds.{fold-ActualValue, fold-Expr, fold-Access, fold-Actual}
 use Rattle.pas_tree.specs.declared.expr.Expr.{Expr}
-use Rattle.pas_program.specs.Tables.{holds_of}
 use Rattle.pas_check.specs.declared.access.Reached.{Reached}
 use Rattle.pas_check.specs.declared.actual.Formal.{Formal}
 use Rattle.pas_check.specs.declared.expr.Typed.{Typed}

@@ -6,7 +6,7 @@ use Rattle.std.specs.declared.hash.FoldHasher.{FoldHasher}
 use Rattle.indexmap.specs.IndexMap.{get}
 use Rattle.pas_program.specs.Tables.{holds_of}
 use Rattle.pas_tree.specs.declared.block.Label.{Label}
-use Rattle.pas_check.specs.declared.fault.Fault.TheVariants.{Broken, Memory}
+use Rattle.pas_check.specs.declared.fault.Fault.TheVariants.{Broken}
 use Rattle.pas_check.specs.declared.fault.Rule.TheVariants as rule
 use Rattle.pas_check.specs.declared.label.LabelDecl.{LabelDecl}
 use Rattle.pas_check.specs.declared.label.Placement.{Placement}

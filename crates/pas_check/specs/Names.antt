@@ -1,6 +1,5 @@
 -- Names: how they are spelled, what a block declares, and what a name denotes where it is used (ISO 7185, 6.1.1 and 6.2.2).
-use Rattle.std.specs.Prelude.{ℕ, ◌+◌, Bool, ◌&&◌, nat_le, List, [], ◌∷◌, ◌++◌, length, map, slice_range, Option, Some, None, is_some, if◌then◌else◌}
-use Rattle.std.specs.Option.{option_and_then}
+use Rattle.std.specs.Prelude.{ℕ, ◌&&◌, nat_le, List, [], ◌∷◌, length, slice_range, Option, Some, None, is_some, if◌then◌else◌}
 use Rattle.std.specs.Str.{bytes_eq, str_to_ascii_lowercase}
 use Rattle.px_base.specs.declared.place.Span.{Span}
 use Rattle.pas_check.specs.declared.meaning.Meaning.{Meaning}

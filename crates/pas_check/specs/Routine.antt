@@ -1,5 +1,5 @@
 -- The tests of a heading and of a block's end (ISO 7185, 6.6.1 and 6.6.2).
-use Rattle.std.specs.Prelude.{ℕ, Bool, true, false, Ok}
+use Rattle.std.specs.Prelude.{ℕ, Ok}
 use Rattle.pas_tree.specs.declared.block.RoutineBody.TheOpen.{Routine-F}
 use Rattle.pas_check.specs.declared.fault.Rule.TheVariants as rule
 use Rattle.pas_check.specs.declared.routine.Head.{Head}

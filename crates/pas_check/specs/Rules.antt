@@ -1,7 +1,7 @@
 -- The eighteen rules: for each its test, which is true where the rule is broken, from what is known at the moment of the test.
 -- The moment is the place of the test, but that of the tests marked "end" is the end of their block; they are placed at
 -- the declaration.
-use Rattle.std.specs.Prelude.{ℕ, ◌*◌, Bool, true, false, ◌&&◌, ◌||◌, not, nat_eq, nat_lt, nat_le, List, length, Option, Some, None, is_none, is_some, int_lt, ℤ}
+use Rattle.std.specs.Prelude.{ℕ, ◌*◌, Bool, ◌&&◌, ◌||◌, not, nat_eq, nat_lt, nat_le, List, length, Option, Some, None, is_none, is_some, int_lt, ℤ}
 use Rattle.std.specs.Bool.{beq}
 use Rattle.std.specs.List.{list_any}
 use Rattle.std.specs.Ordering.{int_eq}
@@ -14,8 +14,6 @@ use Rattle.pas_check.specs.declared.fault.Rule.{Rule}
 use Rattle.pas_check.specs.declared.fault.Rule.TheVariants as rule
 use Rattle.pas_check.specs.declared.meaning.Meaning.{Meaning}
 use Rattle.pas_check.specs.declared.meaning.Meaning.TheVariants as means
-use Rattle.pas_check.specs.declared.meaning.Required.{Required}
-use Rattle.pas_check.specs.declared.meaning.Transput.{Transput}
 use Rattle.pas_check.specs.declared.meaning.Value.{Value}
 use Rattle.pas_check.specs.declared.meaning.Variable.{Variable}
 use Rattle.pas_check.specs.declared.scope.Declaration.{Declaration}

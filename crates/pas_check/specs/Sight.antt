@@ -1,12 +1,10 @@
 -- What a test sees where the walk stands.
-use Rattle.std.specs.Prelude.{◌≡◌, ℕ, Bool, List, [], ◌∷◌, map, reverse, nat_eq, is_some, Option, Some, None, slice_get}
-use Rattle.std.specs.Option.{option_and_then}
+use Rattle.std.specs.Prelude.{ℕ, Bool, List, [], ◌∷◌, map, reverse, nat_eq, is_some, Option, Some, None, slice_get}
 use Rattle.px_base.specs.declared.place.Span.{Span}
 use Rattle.pas_program.specs.declared.type_def.TypeDef.{TypeDef}
 use Rattle.pas_program.specs.declared.type_def.TypeDef.TheVariants.{Scalar, Array}
 use Rattle.indexmap.specs.IndexMap.{get}
 use Rattle.pas_check.specs.declared.actual.Formal.{Formal}
-use Rattle.pas_check.specs.declared.meaning.Meaning.{Meaning}
 use Rattle.pas_check.specs.declared.meaning.Variable.{Variable}
 use Rattle.pas_check.specs.declared.routine.Head.{Head}
 use Rattle.pas_check.specs.declared.scope.Declaration.{Declaration}

@@ -1,18 +1,16 @@
 -- Statements without statements in them, or the first rule that they break (ISO 7185, 6.8.2 and 6.9).
-use Rattle.std.specs.Prelude.{ℕ, ℤ, Bool, true, false, not, nat_eq, length, List, [], ◌∷◌, Option, Some, None, Ok, Err}
+use Rattle.std.specs.Prelude.{ℕ, ℤ, Bool, false, not, List, [], ◌∷◌, Option, Some, None, Ok, Err}
 use Rattle.px_base.specs.declared.place.Span.{Span}
 use Rattle.pas_tree.specs.declared.constant.Constant.{Constant}
-use Rattle.pas_check.specs.declared.fault.Fault.TheVariants.{Broken, Memory}
+use Rattle.pas_check.specs.declared.fault.Fault.TheVariants.{Broken}
 use Rattle.pas_check.specs.declared.fault.Rule.TheVariants as rule
 use Rattle.pas_check.specs.declared.meaning.Meaning.{Meaning}
 use Rattle.pas_check.specs.declared.meaning.Meaning.TheVariants as means
-use Rattle.pas_check.specs.declared.meaning.Transput.{Transput}
-use Rattle.pas_check.specs.declared.meaning.Transput.TheVariants as transput
 use Rattle.pas_check.specs.declared.meaning.Variable.{Variable}
 use Rattle.pas_check.specs.Constant.{constant}
-use Rattle.pas_check.specs.Expr.{Found, Given, all_passed, called_with, callee_at, expression_by, fits, formals_at, is_host, meant, no_width, of_host, reached, result_inside, scalar_of, threatened}
+use Rattle.pas_check.specs.Expr.{Found, Given, called_with, callee_at, expression_by, fits, is_host, meant, no_width, reached, result_inside, threatened}
 use Rattle.pas_check.specs.Outcome.{Outcome, ◌>>=◌, unless}
-use Rattle.pas_check.specs.Rules.{is_other_count, is_other_host, lacks_actuals}
+use Rattle.pas_check.specs.Rules.{is_other_host}
 use Rattle.pas_check.specs.Sight.{Sight, host_at}
 
 -- ---- assignment

@@ -2,7 +2,6 @@
 use Rattle.std.specs.Prelude.{ℕ}
 use Rattle.px_base.specs.declared.place.Span.{Span}
 use Rattle.pas_check.specs.declared.fault.Rule.TheVariants as rule
-use Rattle.pas_check.specs.declared.meaning.Meaning.{Meaning}
 use Rattle.pas_check.specs.Expr.{meant}
 use Rattle.pas_check.specs.Outcome.{Outcome, ◌>>=◌, needed}
 use Rattle.pas_check.specs.Rules.{type_of_name}

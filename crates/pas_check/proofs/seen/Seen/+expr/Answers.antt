@@ -1,6 +1,6 @@
-use Rattle.std.proofs.Common.{◌≡◌, ◌+◌, sym, ap, subst, ◌∙◌, drop, map, rules, Ok, Err}
+use Rattle.std.proofs.Common.{◌+◌, sym, ap, subst, ◌∙◌, drop, map, rules, Err}
 use Rattle.std.proofs.lemmas.Bool.{iff_false}
-use Rattle.pas_check.specs.Expr.{Place, access_found, all_passed, formals_at, found, given, passed, place_of}
+use Rattle.pas_check.specs.Expr.{Place, all_passed, formals_at, given, passed, place_of}
 use Rattle.pas_check.specs.Outcome.{Gives, Outcome, ◌>>=◌}
 use Rattle.pas_check.specs.Sight.{sight}
 use Rattle.pas_check.proofs.Found.{accessed_by, call_is_no_variable}

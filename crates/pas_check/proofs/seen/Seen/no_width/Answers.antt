@@ -1,4 +1,4 @@
-use Rattle.std.proofs.Common.{◌≡◌, Some, ap, ◌∙◌, sym, Err}
+use Rattle.std.proofs.Common.{ap, ◌∙◌, sym, Err}
 use Rattle.std.specs.Option.{option_map}
 use Rattle.pas_check.specs.declared.fault.Fault.TheVariants.{Broken}
 use Rattle.pas_check.specs.declared.fault.Rule.TheVariants as rule
