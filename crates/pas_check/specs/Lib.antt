@@ -1,1 +1,13 @@
+pub mod Constant
+pub mod Control
+pub mod Expr
 pub mod Fault
+pub mod FirstFault
+pub mod Labels
+pub mod Names
+pub mod Outcome
+pub mod Routine
+pub mod Rules
+pub mod Sight
+pub mod Statement
+pub mod TypeExpr

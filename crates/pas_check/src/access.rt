@@ -1,9 +1,15 @@
 //! Variables with their subscripts (ISO 7185, 6.5).
 
-use crate::checker::Checker;
+ghost use Rattle.std.specs.Prelude.{◌≡◌, Some, map};
+ghost use Rattle.pas_check.specs.Expr as spec;
+ghost use Rattle.pas_check.specs.Expr.{access_found, found, place_of};
+ghost use Rattle.pas_check.specs.Outcome.{Gives};
+ghost use Rattle.pas_check.specs.Sight.{host_at, sight};
+
 use crate::expr::Typed;
 use crate::fault::{Fault, Rule};
 use crate::meaning::{Meaning, Variable};
+use crate::seen::{Made, Seen};
 use pas_program::{Access, Expr};
 use px_base::Span;
 use sqlite_items::Items;
@@ -17,37 +23,47 @@ pub struct Reached {
     pub whole: Option<Variable>,
 }
 
-impl<'t> Checker<'t> {
+impl<'t> Seen<'t> {
     /// The variable that a name stands for.
-    pub fn variable_named(&mut self, name: Span) -> Result<Variable, Fault> {
-        match self.meaning(name)? {
+    #[tactic(auto, unfolding(crate::specs::Expr::variable_named))]
+    pub fn variable_named(&self, made: &mut Made, name: Span) -> Result<Variable, Fault>
+        ensures value { Gives (λ x. x) (spec.variable_named (sight self.now) name) result }
+    {
+        match self.meaning(made, name)? {
             Meaning::Variable(variable) => Ok(variable),
             _ => Err(Rule::Kind.broken(name.start)),
         }
     }
 
     /// A variable as it is read or passed.
+    #[tactic(auto, unfolding(crate::specs::Expr::access_found, crate::specs::Expr::accessed))]
     #[cycle(expr)]
-    pub fn access(&mut self, access: &pas_tree::Access) -> Result<Reached, Fault> {
-        let variable = self.variable_named(access.name)?;
-        self.reached(variable, access.name, access.subscripts.as_slice())
+    pub fn access(&self, made: &mut Made, access: &pas_tree::Access) -> Result<Reached, Fault>
+        ensures value { Gives place_of (access_found (sight self.now) access.now) result }
+    {
+        let variable = self.variable_named(made, access.name)?;
+        self.reached(made, variable, access.name, access.subscripts.as_slice())
     }
 
     /// The part of a variable that subscripts lead to.
+    #[tactic(auto, unfolding(crate::specs::Expr::reached))]
     #[cycle(expr)]
     pub fn reached(
-        &mut self,
+        &self,
+        made: &mut Made,
         variable: Variable,
         name: Span,
         subscripts: &[pas_tree::Expr],
-    ) -> Result<Reached, Fault> {
+    ) -> Result<Reached, Fault>
+        ensures value { Gives place_of (spec.reached (sight self.now) variable (map (found (sight self.now)) subscripts.now)) result }
+    {
         let mut of_type = variable.of_type;
         let mut list = Items::new(self.alloc);
         for subscript in subscripts {
-            let Some((index, element)) = self.types.parts(of_type) else {
-                return Err(self.first_fault(subscript, Rule::Type));
+            let Some((index, element)) = self.parts(of_type) else {
+                return Err(self.first_fault(made, subscript, Rule::Type));
             };
-            let value = self.subscript(subscript, index)?;
+            let value = self.subscript(made, subscript, index)?;
             list.push(value).map_err(Fault::Memory)?;
             of_type = element;
         }
@@ -66,13 +82,47 @@ impl<'t> Checker<'t> {
         })
     }
 
+    /// A variable without subscripts.
+    pub fn alone(&self, variable: Variable, name: Span) -> Reached
+        ensures { place_of result ≡ record { of_type = variable.of_type; itself = Some variable } }
+    {
+        Reached {
+            access: Access {
+                var: variable.number,
+                subscripts: Items::new(self.alloc),
+                at: name.start,
+            },
+            of_type: variable.of_type,
+            whole: Some(variable),
+        }
+    }
+
     /// A subscript, which has the host of the index type.
+    #[tactic(auto, unfolding(crate::specs::Expr::subscript, crate::specs::Sight::sight))]
     #[cycle(expr)]
-    fn subscript(&mut self, subscript: &pas_tree::Expr, index: u32) -> Result<Expr, Fault> {
-        let at = pas_tree::span_of(subscript).start;
-        match self.expr(subscript)? {
-            Typed::Scalar { expr, boolean } if self.types.host(index) == Some(boolean) => Ok(expr),
+    fn subscript(
+        &self,
+        made: &mut Made,
+        subscript: &pas_tree::Expr,
+        index: u32,
+    ) -> Result<Expr, Fault>
+        ensures value { Gives (λ e. tt) (spec.subscript (sight self.now) (found (sight self.now) subscript.now) index) result }
+    {
+        let at = self.first(subscript);
+        match self.expr(made, subscript)? {
+            Typed::Scalar { expr, boolean } if self.is_host(index, boolean) => Ok(expr),
             _ => Err(Rule::Type.broken(at)),
+        }
+    }
+
+    /// Whether a type is a scalar of this host.
+    #[tactic(auto, unfolding(crate::specs::Sight::sight))]
+    pub fn is_host(&self, t: u32, boolean: bool) -> bool
+        ensures { result ≡ spec.is_host (host_at (sight self.now) t) boolean }
+    {
+        match self.types.host(t) {
+            Some(host) => host == boolean,
+            None => false,
         }
     }
 }

@@ -1,16 +1,22 @@
 //! Actual parameters (ISO 7185, 6.6.3).
 
-ghost use Rattle.std.specs.Prelude.{◌≡◌, IfOk};
-ghost use Rattle.pas_tree.specs.declared.expr.ActualValue.TheVariants as given;
+ghost use Rattle.std.specs.Prelude.{◌≡◌, IfOk, map};
+ghost use Rattle.pas_tree.specs.declared.expr.ActualValue.TheVariants as written;
+ghost use Rattle.pas_check.specs.Expr as spec;
+ghost use Rattle.pas_check.specs.Expr.{all_passed, expression_by, formals_at, found, given, place_of};
+ghost use Rattle.pas_check.specs.Outcome.{Gives};
+ghost use Rattle.pas_check.specs.Sight.{sight};
 
 use crate::access::Reached;
-use crate::checker::Checker;
 use crate::expr::Typed;
 use crate::fault::{Fault, Rule};
-use crate::meaning::Meaning;
+use crate::meaning::{Meaning, Variable};
+use crate::seen::{Made, Seen};
 use pas_program::Actual;
-use pas_tree::{ActualValue, span_of};
+use pas_tree::ActualValue;
+use px_base::Span;
 use sqlite_items::Items;
+use std::alloc::AllocError;
 
 /// A parameter as its callers see it.
 #[derive(Clone, Copy, Debug, PartialEq, Eq)]
@@ -19,13 +25,15 @@ pub struct Formal {
     pub of_type: u32,
 }
 
-impl<'t> Checker<'t> {
+impl<'t> Seen<'t> {
     /// The expression of an actual, which is no string.
+    #[tactic(auto, unfolding(crate::specs::Expr::given))]
     pub fn value_actual<'e>(
         &self,
         actual: &'e pas_tree::Actual,
     ) -> Result<&'e pas_tree::Expr, Fault>
-        ensures { IfOk result (λ value. actual.now.value ≡ given.Value value.now) }
+        ensures written { IfOk result (λ value. actual.now.value ≡ written.Value value.now) }
+        ensures value { Gives (λ e. found (sight self.now) e.now) (expression_by (given (sight self.now) actual.now).value) result }
     {
         match &actual.value {
             ActualValue::Value(value) => Ok(value),
@@ -34,9 +42,12 @@ impl<'t> Checker<'t> {
     }
 
     /// Tests that an actual has no width.
-    pub fn no_width(&self, actual: &pas_tree::Actual) -> Result<(), Fault> {
+    #[tactic(auto, unfolding(crate::specs::Expr::given))]
+    pub fn no_width(&self, actual: &pas_tree::Actual) -> Result<(), Fault>
+        ensures value { Gives (λ u. u) (spec.no_width (given (sight self.now) actual.now).width) result }
+    {
         match &actual.width {
-            Some(width) => Err(Rule::Type.broken(span_of(width).start)),
+            Some(width) => Err(Rule::Type.broken(self.first(width))),
             None => Ok(()),
         }
     }
@@ -44,66 +55,157 @@ impl<'t> Checker<'t> {
     /// The actuals of a routine, as many as it has formals.
     #[cycle(expr)]
     pub fn actuals(
-        &mut self,
+        &self,
+        made: &mut Made,
         head: usize,
         actuals: &[pas_tree::Actual],
-    ) -> Result<Items<Actual>, Fault> {
+    ) -> Result<Items<Actual>, Fault>
+        ensures value { Gives (λ list. tt) (all_passed (sight self.now) (formals_at (sight self.now) head) (map (given (sight self.now)) actuals.now)) result }
+    {
         let mut list = Items::new(self.alloc);
         for (k, actual) in actuals.iter().enumerate() {
-            let value = self.value_actual(actual)?;
-            let Some(formal) = self.formal(head, k) else {
-                return Err(Rule::ActualCount.broken(span_of(value).start));
-            };
-            let passed = if formal.by_var {
-                self.passed_by_var(value, formal.of_type)?
-            } else {
-                self.passed_by_value(value, formal.of_type)?
-            };
-            self.no_width(actual)?;
+            let passed = self.passed(made, self.formal(head, k), actual)?;
             list.push(passed).map_err(Fault::Memory)?;
         }
         Ok(list)
     }
 
+    /// An actual for a formal, if there is one.
+    #[tactic(auto, unfolding(crate::specs::Expr::passed))]
     #[cycle(expr)]
-    fn passed_by_value(&mut self, value: &pas_tree::Expr, of_type: u32) -> Result<Actual, Fault> {
-        match self.expr(value)? {
-            Typed::Scalar { expr, boolean } if self.types.host(of_type) == Some(boolean) => {
+    fn passed(
+        &self,
+        made: &mut Made,
+        formal: Option<Formal>,
+        actual: &pas_tree::Actual,
+    ) -> Result<Actual, Fault>
+        ensures value { Gives (λ a. tt) (spec.passed (sight self.now) formal (given (sight self.now) actual.now)) result }
+    {
+        let value = self.value_actual(actual)?;
+        let Some(formal) = formal else {
+            return Err(Rule::ActualCount.broken(self.first(value)));
+        };
+        let passed = self.passed_to(made, value, formal)?;
+        self.no_width(actual)?;
+        Ok(passed)
+    }
+
+    #[cycle(expr)]
+    fn passed_to(
+        &self,
+        made: &mut Made,
+        value: &pas_tree::Expr,
+        formal: Formal,
+    ) -> Result<Actual, Fault>
+        ensures value { Gives (λ a. tt) (spec.passed_to (sight self.now) formal (found (sight self.now) value.now)) result }
+    {
+        if formal.by_var {
+            self.passed_by_var(made, value, formal.of_type)
+        } else {
+            self.passed_by_value(made, value, formal.of_type)
+        }
+    }
+
+    #[tactic(auto, unfolding(crate::specs::Expr::passed_by_value))]
+    #[cycle(expr)]
+    fn passed_by_value(
+        &self,
+        made: &mut Made,
+        value: &pas_tree::Expr,
+        of_type: u32,
+    ) -> Result<Actual, Fault>
+        ensures value { Gives (λ a. tt) (spec.passed_by_value (sight self.now) (found (sight self.now) value.now) of_type) result }
+    {
+        match self.expr(made, value)? {
+            Typed::Scalar { expr, boolean } if self.is_host(of_type, boolean) => {
                 Ok(Actual::Value(expr))
             }
             Typed::Array {
                 access,
                 of_type: own,
             } if own == of_type => Ok(Actual::Whole(access)),
-            _ => Err(Rule::Type.broken(span_of(value).start)),
+            _ => Err(Rule::Type.broken(self.first(value))),
         }
     }
 
+    #[tactic(auto, unfolding(crate::specs::Expr::passed_by_var))]
     #[cycle(expr)]
-    fn passed_by_var(&mut self, value: &pas_tree::Expr, of_type: u32) -> Result<Actual, Fault> {
-        let reached = self.variable_of(value)?;
+    fn passed_by_var(
+        &self,
+        made: &mut Made,
+        value: &pas_tree::Expr,
+        of_type: u32,
+    ) -> Result<Actual, Fault>
+        ensures value { Gives (λ a. tt) (spec.passed_by_var (sight self.now) (found (sight self.now) value.now) of_type) result }
+    {
+        let reached = self.variable_of(made, value)?;
         if reached.of_type != of_type {
-            return Err(Rule::VarActual.broken(span_of(value).start));
+            return Err(Rule::VarActual.broken(self.first(value)));
         }
-        self.threaten(reached.whole, span_of(value).start)?;
+        self.threaten(made, reached.whole, self.first(value))?;
         Ok(Actual::Var(reached.access))
     }
 
     /// The variable that an expression is.
+    #[tactic(auto, unfolding(crate::specs::Expr::found, crate::specs::Expr::access_found))]
     #[cycle(expr)]
-    pub fn variable_of(&mut self, value: &pas_tree::Expr) -> Result<Reached, Fault> {
+    pub fn variable_of(&self, made: &mut Made, value: &pas_tree::Expr) -> Result<Reached, Fault>
+        ensures value { Gives place_of (found (sight self.now) value.now).variable result }
+    {
         match value {
-            pas_tree::Expr::Indexed { access, .. } => self.access(access),
-            pas_tree::Expr::Name { name, actuals, .. } if actuals.is_empty() => {
-                match self.meaning(*name)? {
-                    Meaning::Variable(variable) => self.reached(variable, *name, &[]),
-                    Meaning::Constant(_)
-                    | Meaning::Routine { function: true, .. }
-                    | Meaning::Required(_) => Err(Rule::VarActual.broken(name.start)),
-                    _ => Err(Rule::Kind.broken(name.start)),
+            pas_tree::Expr::Indexed { access, .. } => self.access(made, access),
+            pas_tree::Expr::Name { name, actuals, .. } => {
+                if actuals.is_empty() {
+                    let meaning = self.meaning(made, *name)?;
+                    self.variable_meant(meaning, *name)
+                } else {
+                    Err(self.first_fault(made, value, Rule::VarActual))
                 }
             }
-            _ => Err(self.first_fault(value, Rule::VarActual)),
+            pas_tree::Expr::Number { .. }
+            | pas_tree::Expr::Paren { .. }
+            | pas_tree::Expr::Not { .. }
+            | pas_tree::Expr::Signed { .. }
+            | pas_tree::Expr::Binary { .. } => {
+                Err(self.first_fault(made, value, Rule::VarActual))
+            }
         }
     }
+
+    /// The variable that a name without subscripts and actuals is.
+    #[tactic(auto, unfolding(crate::specs::Expr::variable_by))]
+    fn variable_meant(&self, meaning: Meaning, name: Span) -> Result<Reached, Fault>
+        ensures value { Gives place_of (spec.variable_by (sight self.now) meaning name.start) result }
+    {
+        match meaning {
+            Meaning::Variable(variable) => Ok(self.alone(variable, name)),
+            Meaning::Constant(_) => Err(Rule::VarActual.broken(name.start)),
+            Meaning::Routine { function: true, .. } => Err(Rule::VarActual.broken(name.start)),
+            Meaning::Required(_) => Err(Rule::VarActual.broken(name.start)),
+            _ => Err(Rule::Kind.broken(name.start)),
+        }
+    }
+
+    /// Tests a place that writes a whole variable. A threat by a routine inside the variable's own is kept for the `for`
+    /// that comes later.
+    #[tactic(auto, unfolding(crate::specs::Expr::threatened, crate::specs::Sight::sight))]
+    pub fn threaten(&self, made: &mut Made, whole: Option<Variable>, at: u32) -> Result<(), Fault>
+        ensures value { Gives (λ u. u) (spec.threatened (sight self.now) whole at) result }
+    {
+        let Some(variable) = whole else {
+            return Ok(());
+        };
+        if variable.routine != self.routine {
+            return mark(made, variable).map_err(Fault::Memory);
+        }
+        if self.looping.contains_key(&variable.number) {
+            return Err(Rule::Control.broken(at));
+        }
+        Ok(())
+    }
+}
+
+fn mark(made: &mut Made, variable: Variable) -> Result<(), AllocError> {
+    made.threatened.insert(variable.number, ())?;
+    Ok(())
 }

@@ -15,17 +15,17 @@ use std::alloc::AllocError;
 impl<'t> Checker<'t> {
     /// The program's block.
     pub fn program(&mut self, tree: &Tree) -> Result<(), Fault> {
-        let mut scope = Scope::new(self.alloc, self.frame.routine);
+        let mut scope = Scope::new(self.seen.alloc, self.seen.routine);
         self.note_block(&mut scope, &tree.block)?;
         self.push_scope(scope)?;
         let body = self.block(&tree.block, None)?;
         let empty = Frame::new(
-            self.alloc,
+            self.seen.alloc,
             tree.name,
             0,
             None,
             0,
-            Items::new(self.alloc),
+            Items::new(self.seen.alloc),
             None,
         );
         let done = self.exchange_frame(empty);
@@ -33,8 +33,9 @@ impl<'t> Checker<'t> {
     }
 
     pub fn add_routine(&mut self, done: Frame, body: Statement) -> Result<(), Fault> {
-        let vars = done.variables(self.alloc).map_err(Fault::Memory)?;
-        self.routines
+        let vars = done.variables(self.seen.alloc).map_err(Fault::Memory)?;
+        self.made
+            .routines
             .push(done.finish(vars, body))
             .map_err(Fault::Memory)
     }
@@ -54,7 +55,7 @@ impl<'t> Checker<'t> {
         Ok(Statement {
             at: block.begin.start,
             label: None,
-            asserts: Items::new(self.alloc),
+            asserts: Items::new(self.seen.alloc),
             body: Body::Begin {
                 body,
                 end: block.end.start,
@@ -63,7 +64,7 @@ impl<'t> Checker<'t> {
     }
 
     fn place_labels(&mut self, block: &Block) -> Result<(), AllocError> {
-        if let Some(scope) = self.scopes.last_mut() {
+        if let Some(scope) = self.seen.scopes.last_mut() {
             if !scope.labels.is_empty() {
                 let _ = place_sequence(&mut scope.labels, block.body.as_slice(), true)?;
             }
@@ -73,18 +74,20 @@ impl<'t> Checker<'t> {
 
     fn const_part(&mut self, decls: &[ConstDecl]) -> Result<(), Fault> {
         for decl in decls {
-            self.claim(decl.name)?;
-            let value = self.constant(&decl.value)?;
-            self.define(decl.name, Meaning::Constant(value))?;
+            self.seen.claim(&mut self.made, decl.name)?;
+            let value = self.seen.constant(&mut self.made, &decl.value)?;
+            self.seen
+                .define(&mut self.made, decl.name, Meaning::Constant(value))?;
         }
         Ok(())
     }
 
     fn type_part(&mut self, decls: &[TypeDecl]) -> Result<(), Fault> {
         for decl in decls {
-            self.claim(decl.name)?;
+            self.seen.claim(&mut self.made, decl.name)?;
             let number = self.type_expr(&decl.of_type)?;
-            self.define(decl.name, Meaning::Type(number))?;
+            self.seen
+                .define(&mut self.made, decl.name, Meaning::Type(number))?;
         }
         Ok(())
     }
@@ -94,8 +97,9 @@ impl<'t> Checker<'t> {
             self.claim_names(decl.names.as_slice())?;
             let of_type = self.type_expr(&decl.of_type)?;
             for name in decl.names.as_slice() {
-                let variable = self.variable(*name, VarKind::Local, of_type)?;
-                self.define(*name, Meaning::Variable(variable))?;
+                let variable = self.made.variable(*name, VarKind::Local, of_type)?;
+                self.seen
+                    .define(&mut self.made, *name, Meaning::Variable(variable))?;
             }
         }
         Ok(())
@@ -103,7 +107,7 @@ impl<'t> Checker<'t> {
 
     #[cycle(block)]
     fn routine_part(&mut self, routines: &[Routine], plans: &[Plan]) -> Result<(), Fault> {
-        let mut heads: Vec<usize> = Vec::new(self.alloc);
+        let mut heads: Vec<usize> = Vec::new(self.seen.alloc);
         for (heading, routine) in routines.iter().enumerate() {
             let Some(plan) = plans.get(heading).copied() else {
                 return Ok(());

@@ -1,11 +1,18 @@
 //! Expressions (ISO 7185, 6.7).
 
+ghost use Rattle.std.specs.Prelude.{◌≡◌, true, false, IfErr, IfOk, map};
+ghost use Rattle.std.specs.Option.{option_map};
+ghost use Rattle.pas_check.specs.Expr as spec;
+ghost use Rattle.pas_check.specs.Expr.{found, given, scalar, type_of};
+ghost use Rattle.pas_check.specs.Outcome.{Gives, IsBroken, IsMemory};
+ghost use Rattle.pas_check.specs.Sight.{host_at, sight};
+
 use crate::access::Reached;
-use crate::checker::Checker;
 use crate::constant::number;
 use crate::fault::{Fault, Rule};
 use crate::meaning::{Meaning, Required};
-use pas_program::{Access, Actual, Expr, ExprForm};
+use crate::seen::{Made, Seen};
+use pas_program::{Access, Actual, Expr, ExprForm, VarKind};
 use pas_tree::{Sign, span_of};
 use px_base::{BinOp, Span, UnOp};
 use sqlite_items::{Boxed, Items};
@@ -21,7 +28,9 @@ pub enum Typed {
 
 impl Typed {
     /// A constant.
-    fn constant(first: u32, boolean: bool, value: i32) -> Typed {
+    fn constant(first: u32, boolean: bool, value: i32) -> Typed
+        ensures { type_of result ≡ scalar boolean }
+    {
         Typed::Scalar {
             expr: Expr {
                 first,
@@ -32,7 +41,9 @@ impl Typed {
     }
 
     /// The same with its first token at `first`.
-    fn begun_at(self, first: u32) -> Typed {
+    fn begun_at(self, first: u32) -> Typed
+        ensures { type_of result ≡ type_of self }
+    {
         match self {
             Typed::Scalar { expr, boolean } => {
                 let Expr {
@@ -50,7 +61,9 @@ impl Typed {
 }
 
 /// The host of the operands of an operator whose operands are not just alike.
-fn operand_host(op: BinOp) -> Option<bool> {
+fn operand_host(op: BinOp) -> Option<bool>
+    ensures { result ≡ spec.operand_host op }
+{
     match op {
         BinOp::Add | BinOp::Sub | BinOp::Mul | BinOp::Div | BinOp::Mod => Some(false),
         BinOp::And | BinOp::Or => Some(true),
@@ -59,7 +72,9 @@ fn operand_host(op: BinOp) -> Option<bool> {
 }
 
 /// Whether the result of an operator is Boolean.
-fn gives_truth(op: BinOp) -> bool {
+fn gives_truth(op: BinOp) -> bool
+    ensures { result ≡ spec.gives_truth op }
+{
     !matches!(
         op,
         BinOp::Add | BinOp::Sub | BinOp::Mul | BinOp::Div | BinOp::Mod
@@ -68,7 +83,9 @@ fn gives_truth(op: BinOp) -> bool {
 
 /// The operator of a required function at an operand of this host, and whether its result is Boolean; `None` where the
 /// operand has the wrong host.
-fn required_operator(function: Required, boolean: bool) -> Option<(UnOp, bool)> {
+fn required_operator(function: Required, boolean: bool) -> Option<(UnOp, bool)>
+    ensures { option_map (λ p. p.1) result ≡ spec.required_gives function boolean }
+{
     match (function, boolean) {
         (Required::Abs, false) => Some((UnOp::Abs, false)),
         (Required::Sqr, false) => Some((UnOp::Sqr, false)),
@@ -82,28 +99,34 @@ fn required_operator(function: Required, boolean: bool) -> Option<(UnOp, bool)> 
     }
 }
 
-impl<'t> Checker<'t> {
+impl<'t> Seen<'t> {
     /// An expression with its type.
+    #[tactic(auto, unfolding(crate::specs::Expr::found, crate::specs::Expr::access_found, crate::specs::Expr::given))]
     #[cycle(expr)]
-    pub fn expr(&mut self, e: &pas_tree::Expr) -> Result<Typed, Fault> {
+    pub fn expr(&self, made: &mut Made, e: &pas_tree::Expr) -> Result<Typed, Fault>
+        ensures value { Gives type_of (found (sight self.now) e.now).value result }
+    {
         match e {
             pas_tree::Expr::Number { value, span } => {
                 Ok(Typed::constant(span.start, false, number(*value)))
             }
-            pas_tree::Expr::Name { name, actuals, .. } => self.named(*name, actuals.as_slice()),
+            pas_tree::Expr::Name { name, actuals, .. } => {
+                self.named(made, *name, actuals.as_slice())
+            }
             pas_tree::Expr::Indexed { access, .. } => {
-                let reached = self.access(access)?;
+                let reached = self.access(made, access)?;
                 Ok(self.value_of(reached))
             }
             pas_tree::Expr::Paren { inner, span } => {
-                Ok(self.expr(inner.get())?.begun_at(span.start))
+                Ok(self.expr(made, inner.get())?.begun_at(span.start))
             }
             pas_tree::Expr::Not { inner, span } => {
-                let operand = self.of_host(inner.get(), true)?;
+                let operand = self.of_host(made, inner.get(), true)?;
                 self.unary(UnOp::Not, operand, span.start, true)
             }
             pas_tree::Expr::Signed { sign, inner, span } => {
-                self.signed(*sign, inner.get(), span.start)
+                let operand = self.of_host(made, inner.get(), false)?;
+                self.signed(*sign, operand, span.start)
             }
             pas_tree::Expr::Binary {
                 op,
@@ -112,48 +135,71 @@ impl<'t> Checker<'t> {
                 at,
                 ..
             } => {
-                let (a, host) = self.left_operand(*op, left.get())?;
-                let b = self.of_host(right.get(), host)?;
+                let (a, host) = self.left_operand(made, *op, left.get())?;
+                let b = self.of_host(made, right.get(), host)?;
                 self.binary(*op, a, b, at.start)
             }
         }
     }
 
     /// A scalar expression with its host.
+    #[tactic(auto, unfolding(crate::specs::Expr::scalar_of))]
     #[cycle(expr)]
-    pub fn scalar(&mut self, e: &pas_tree::Expr) -> Result<(Expr, bool), Fault> {
-        match self.expr(e)? {
+    pub fn scalar(&self, made: &mut Made, e: &pas_tree::Expr) -> Result<(Expr, bool), Fault>
+        ensures value { Gives (λ r. r.1) (spec.scalar_of (found (sight self.now) e.now)) result }
+    {
+        match self.expr(made, e)? {
             Typed::Scalar { expr, boolean } => Ok((expr, boolean)),
-            Typed::Array { .. } => Err(Rule::Type.broken(span_of(e).start)),
+            Typed::Array { .. } => Err(Rule::Type.broken(self.first(e))),
         }
     }
 
     /// An expression of this host.
+    #[tactic(auto, unfolding(crate::specs::Expr::of_host))]
     #[cycle(expr)]
-    pub fn of_host(&mut self, e: &pas_tree::Expr, boolean: bool) -> Result<Expr, Fault> {
-        let (expr, host) = self.scalar(e)?;
+    pub fn of_host(&self, made: &mut Made, e: &pas_tree::Expr, boolean: bool) -> Result<Expr, Fault>
+        ensures value { Gives (λ x. tt) (spec.of_host boolean (found (sight self.now) e.now)) result }
+    {
+        let (expr, host) = self.scalar(made, e)?;
         if host != boolean {
-            return Err(Rule::Type.broken(span_of(e).start));
+            return Err(Rule::Type.broken(self.first(e)));
         }
         Ok(expr)
     }
 
+    /// The place of the first token of an expression.
+    pub fn first(&self, e: &pas_tree::Expr) -> u32
+        ensures { result ≡ (found (sight self.now) e.now).first }
+    {
+        span_of(e).start
+    }
+
     /// The fault that a rule is broken at the first token of an expression, or a fault with a lower code that stands
     /// there too.
+    #[tactic(auto, unfolding(crate::specs::Expr::lower_first))]
     #[cycle(expr)]
-    pub fn first_fault(&mut self, e: &pas_tree::Expr, rule: Rule) -> Fault {
-        let first = span_of(e).start;
-        match self.expr(e) {
+    pub fn first_fault(&self, made: &mut Made, e: &pas_tree::Expr, rule: Rule) -> Fault
+        ensures value { IsBroken result → result ≡ spec.lower_first (found (sight self.now) e.now).first rule (found (sight self.now) e.now).value }
+    {
+        let first = self.first(e);
+        match self.expr(made, e) {
+            Ok(_) => rule.broken(first),
             Err(Fault::Memory(error)) => Fault::Memory(error),
-            Err(Fault::Broken { rule: lower, at }) if at == first && lower.code() < rule.code() => {
-                lower.broken(at)
+            Err(Fault::Broken { rule: lower, at }) => {
+                if at == first && lower.code() < rule.code() {
+                    lower.broken(at)
+                } else {
+                    rule.broken(first)
+                }
             }
-            _ => rule.broken(first),
         }
     }
 
     /// The value of a variable.
-    pub fn value_of(&self, reached: Reached) -> Typed {
+    #[tactic(auto, unfolding(crate::specs::Expr::value_at, crate::specs::Sight::sight))]
+    pub fn value_of(&self, reached: Reached) -> Typed
+        ensures { type_of result ≡ spec.value_at (sight self.now) reached.of_type }
+    {
         let Reached {
             access,
             of_type,
@@ -171,7 +217,10 @@ impl<'t> Checker<'t> {
         }
     }
 
-    fn unary(&self, op: UnOp, operand: Expr, at: u32, boolean: bool) -> Result<Typed, Fault> {
+    fn unary(&self, op: UnOp, operand: Expr, at: u32, boolean: bool) -> Result<Typed, Fault>
+        ensures of_type { IfOk result (λ t. type_of t ≡ scalar boolean) }
+        ensures memory { IfErr result IsMemory }
+    {
         let of = Boxed::new(self.alloc, operand).map_err(Fault::Memory)?;
         Ok(Typed::Scalar {
             expr: Expr {
@@ -182,9 +231,10 @@ impl<'t> Checker<'t> {
         })
     }
 
-    #[cycle(expr)]
-    fn signed(&mut self, sign: Sign, inner: &pas_tree::Expr, at: u32) -> Result<Typed, Fault> {
-        let operand = self.of_host(inner, false)?;
+    fn signed(&self, sign: Sign, operand: Expr, at: u32) -> Result<Typed, Fault>
+        ensures of_type { IfOk result (λ t. type_of t ≡ scalar false) }
+        ensures memory { IfErr result IsMemory }
+    {
         match sign {
             Sign::Minus => self.unary(UnOp::Neg, operand, at, false),
             Sign::Plus => Ok(Typed::Scalar {
@@ -197,24 +247,37 @@ impl<'t> Checker<'t> {
 
     /// The left operand of an operator, and the host that the right one must have: the operands of a relation have one
     /// host, and a difference is at the right one.
+    #[tactic(auto, unfolding(crate::specs::Expr::left_operand))]
     #[cycle(expr)]
-    fn left_operand(&mut self, op: BinOp, left: &pas_tree::Expr) -> Result<(Expr, bool), Fault> {
+    fn left_operand(
+        &self,
+        made: &mut Made,
+        op: BinOp,
+        left: &pas_tree::Expr,
+    ) -> Result<(Expr, bool), Fault>
+        ensures value { Gives (λ r. r.1) (spec.left_operand op (found (sight self.now) left.now)) result }
+    {
         match operand_host(op) {
-            Some(host) => Ok((self.of_host(left, host)?, host)),
-            None => self.scalar(left),
+            Some(host) => Ok((self.of_host(made, left, host)?, host)),
+            None => self.scalar(made, left),
         }
     }
 
     /// An operator with its operands.
-    fn binary(&self, op: BinOp, left: Expr, right: Expr, at: u32) -> Result<Typed, Fault> {
+    fn binary(&self, op: BinOp, left: Expr, right: Expr, at: u32) -> Result<Typed, Fault>
+        ensures of_type { IfOk result (λ t. type_of t ≡ scalar (spec.gives_truth op)) }
+        ensures memory { IfErr result IsMemory }
+    {
         let first = left.first;
+        let left = Boxed::new(self.alloc, left).map_err(Fault::Memory)?;
+        let right = Boxed::new(self.alloc, right).map_err(Fault::Memory)?;
         Ok(Typed::Scalar {
             expr: Expr {
                 first,
                 form: ExprForm::Binary {
                     op,
-                    left: Boxed::new(self.alloc, left).map_err(Fault::Memory)?,
-                    right: Boxed::new(self.alloc, right).map_err(Fault::Memory)?,
+                    left,
+                    right,
                     at,
                 },
             },
@@ -223,69 +286,126 @@ impl<'t> Checker<'t> {
     }
 
     /// A constant, a variable without subscripts, or a call.
+    #[tactic(auto, unfolding(crate::specs::Expr::named))]
     #[cycle(expr)]
-    fn named(&mut self, name: Span, actuals: &[pas_tree::Actual]) -> Result<Typed, Fault> {
-        let first = name.start;
-        match self.meaning(name)? {
-            Meaning::Constant(value) if actuals.is_empty() => {
-                Ok(Typed::constant(first, value.boolean, value.value))
+    fn named(
+        &self,
+        made: &mut Made,
+        name: Span,
+        actuals: &[pas_tree::Actual],
+    ) -> Result<Typed, Fault>
+        ensures value { Gives type_of (spec.named (sight self.now) name (map (given (sight self.now)) actuals.now)) result }
+    {
+        let meaning = self.meaning(made, name)?;
+        if actuals.is_empty() {
+            if let Some(typed) = self.named_alone(meaning, name) {
+                return Ok(typed);
             }
-            Meaning::Variable(variable) if actuals.is_empty() => {
-                let reached = self.reached(variable, name, &[])?;
-                Ok(self.value_of(reached))
+        }
+        self.named_call(made, meaning, name, actuals)
+    }
+
+    /// A constant or a variable.
+    #[tactic(auto, unfolding(crate::specs::Expr::alone_by))]
+    fn named_alone(&self, meaning: Meaning, name: Span) -> Option<Typed>
+        ensures { option_map type_of result ≡ spec.alone_by (sight self.now) meaning }
+    {
+        match meaning {
+            Meaning::Constant(value) => {
+                Some(Typed::constant(name.start, value.boolean, value.value))
             }
+            Meaning::Variable(variable) => Some(self.value_of(self.alone(variable, name))),
+            _ => None,
+        }
+    }
+
+    /// A call, where the name is no constant and no variable.
+    #[tactic(auto, unfolding(crate::specs::Expr::call_by))]
+    #[cycle(expr)]
+    fn named_call(
+        &self,
+        made: &mut Made,
+        meaning: Meaning,
+        name: Span,
+        actuals: &[pas_tree::Actual],
+    ) -> Result<Typed, Fault>
+        ensures value { Gives type_of (spec.call_by (sight self.now) meaning name.start (map (given (sight self.now)) actuals.now)) result }
+    {
+        match meaning {
             Meaning::Routine {
                 head,
                 function: true,
-            } => self.function_call(head, name, actuals),
-            Meaning::Required(function) => self.required_call(function, name, actuals),
-            _ => Err(Rule::Kind.broken(first)),
+            } => self.function_call(made, head, name, actuals),
+            Meaning::Required(function) => self.required_call(made, function, name, actuals),
+            _ => Err(Rule::Kind.broken(name.start)),
         }
     }
 
     #[cycle(expr)]
     fn required_call(
-        &mut self,
+        &self,
+        made: &mut Made,
         function: Required,
         name: Span,
         actuals: &[pas_tree::Actual],
-    ) -> Result<Typed, Fault> {
-        let (Some(actual), 1) = (actuals.first(), actuals.len()) else {
-            return Err(Rule::ActualCount.broken(name.start));
-        };
+    ) -> Result<Typed, Fault>
+        ensures value { Gives type_of (spec.required_call function name.start (map (given (sight self.now)) actuals.now)) result }
+    {
+        if actuals.len() == 1 {
+            self.required_of(made, function, name, &actuals[0])
+        } else {
+            Err(Rule::ActualCount.broken(name.start))
+        }
+    }
+
+    #[tactic(auto, unfolding(crate::specs::Expr::required_of))]
+    #[cycle(expr)]
+    fn required_of(
+        &self,
+        made: &mut Made,
+        function: Required,
+        name: Span,
+        actual: &pas_tree::Actual,
+    ) -> Result<Typed, Fault>
+        ensures value { Gives type_of (spec.required_of function (given (sight self.now) actual.now)) result }
+    {
         let value = self.value_actual(actual)?;
-        let (operand, boolean) = self.scalar(value)?;
+        let (operand, boolean) = self.scalar(made, value)?;
         let Some((op, truth)) = required_operator(function, boolean) else {
-            return Err(Rule::Type.broken(span_of(value).start));
+            return Err(Rule::Type.broken(self.first(value)));
         };
         self.no_width(actual)?;
         self.unary(op, operand, name.start, truth)
     }
 
     /// A call of a declared function, with a slot for its result.
+    #[tactic(auto, unfolding(crate::specs::Expr::function_call))]
     #[cycle(expr)]
     fn function_call(
-        &mut self,
+        &self,
+        made: &mut Made,
         head: usize,
         name: Span,
         actuals: &[pas_tree::Actual],
-    ) -> Result<Typed, Fault> {
+    ) -> Result<Typed, Fault>
+        ensures value { Gives type_of (spec.function_call (sight self.now) head name.start (map (given (sight self.now)) actuals.now)) result }
+    {
         let Some(callee) = self.callee(head) else {
             return Err(Rule::Kind.broken(name.start));
         };
         if callee.formals != actuals.len() {
             return Err(Rule::ActualCount.broken(name.start));
         }
-        if self.asserting {
+        if self.is_asserting() {
             return Err(Rule::AssertionCall.broken(name.start));
         }
-        let slot = self.slot(name, callee.result)?;
-        let actuals = self.actuals(head, actuals)?;
+        let slot = made.variable(name, VarKind::Slot, callee.result)?;
+        let actuals = self.actuals(made, head, actuals)?;
         Ok(self.called(
             callee.routine,
             actuals,
             slot.number,
-            slot.of_type,
+            callee.result,
             name.start,
         ))
     }
@@ -298,7 +418,9 @@ impl<'t> Checker<'t> {
         slot: u32,
         of_type: u32,
         at: u32,
-    ) -> Typed {
+    ) -> Typed
+        ensures { type_of result ≡ scalar (spec.is_host (host_at (sight self.now) of_type) true) }
+    {
         Typed::Scalar {
             expr: Expr {
                 first: at,
@@ -309,7 +431,7 @@ impl<'t> Checker<'t> {
                     at,
                 },
             },
-            boolean: self.types.host(of_type) == Some(true),
+            boolean: self.is_host(of_type, true),
         }
     }
 }

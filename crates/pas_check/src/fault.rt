@@ -1,5 +1,6 @@
-ghost use Rattle.std.specs.Prelude.{◌≤◌};
+ghost use Rattle.std.specs.Prelude.{◌≡◌, ◌≤◌};
 ghost use Rattle.pas_check.specs.Fault.{IsWithin};
+ghost use Rattle.pas_check.specs.Rules.{code_of};
 
 use std::alloc::AllocError;
 use thiserror::Error;
@@ -80,6 +81,7 @@ pub enum Rule {
 impl Rule {
     /// Its number in `CheckFault::Wrong`.
     pub fn code(self) -> u8
+        ensures value { result ≡ code_of self }
         ensures low { 1 ≤ result }
         ensures high { result ≤ 18 }
     {
@@ -106,7 +108,9 @@ impl Rule {
     }
 
     /// The fault that it is broken at `at`.
-    pub fn broken(self, at: u32) -> Fault {
+    pub fn broken(self, at: u32) -> Fault
+        ensures { result ≡ Fault.Broken self at }
+    {
         Fault::Broken { rule: self, at }
     }
 }

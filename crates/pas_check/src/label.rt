@@ -1,7 +1,15 @@
 //! Labels and where they stand (ISO 7185, 6.8.1).
 
+ghost use Rattle.std.specs.Prelude.{◌≡◌, None, OnOk, Some, nat_eq, reverse};
+ghost use Rattle.indexmap.specs.IndexMap.{Updates};
+ghost use Rattle.pas_check.specs.Labels as spec;
+ghost use Rattle.pas_check.specs.Labels.{first_scope};
+ghost use Rattle.pas_check.specs.Outcome.{Gives};
+
 use crate::checker::Checker;
 use crate::fault::{Fault, Rule};
+use crate::scope::{Scope, innermost};
+use crate::seen::Seen;
 use indexmap::IndexMap;
 use pas_program::Body;
 use pas_tree::{Label, Statement};
@@ -145,58 +153,126 @@ fn note(
     Ok(())
 }
 
-impl<'t> Checker<'t> {
-    /// The label part of a block.
-    pub fn label_part(&mut self, labels: &[Label]) -> Result<(), Fault> {
-        for label in labels {
-            let Some(scope) = self.scopes.last_mut() else {
-                return Ok(());
-            };
-            if scope.labels.contains_key(&label.value) {
-                return Err(Rule::DeclaredOnce.broken(label.at.start));
-            }
-            if label.value > MOST_LABEL {
-                return Err(Rule::LabelValue.broken(label.at.start));
-            }
-            scope
-                .declare_label(label.value, label.at.start)
-                .map_err(Fault::Memory)?;
+impl Scope {
+    /// Declares a label of the block's label part.
+    pub fn declare_label(&mut self, label: Label) -> Result<(), Fault>
+        ensures value { Gives (λ u. u) (spec.declared_label self.old.labels label) result }
+        ensures added { OnOk result (Updates nat_eq self.old.labels self.new.labels label.value (Some (record { at = label.at.start; placed = None }))) }
+    {
+        if self.labels.contains_key(&label.value) {
+            return Err(Rule::DeclaredOnce.broken(label.at.start));
         }
-        Ok(())
+        if label.value > MOST_LABEL {
+            return Err(Rule::LabelValue.broken(label.at.start));
+        }
+        let declared = LabelDecl {
+            at: label.at.start,
+            placed: None,
+        };
+        match self.labels.insert(label.value, declared) {
+            Ok(_) => Ok(()),
+            Err(_) => Err(Fault::Memory(AllocError)),
+        }
     }
 
-    /// Tests a label at a statement: its block declares it, and no statement before has it.
-    pub fn placed_label(&self, label: Label) -> Result<u32, Fault> {
-        let declared = self
-            .scopes
-            .last()
-            .and_then(|scope| scope.labels.get(&label.value).copied());
-        match declared.and_then(|declared| declared.placed) {
-            Some(placed) if placed.at == label.at.start => Ok(label.value),
+    /// Tests a label at a statement of the block: the block declares it, and no statement before has it.
+    fn placed_label(&self, label: Label) -> Result<u32, Fault>
+        ensures value { Gives (λ n. n) (spec.placed_label self.now.labels label) result }
+    {
+        match self.place_of(label.value) {
+            Some(at) if at == label.at.start => Ok(label.value),
             _ => Err(Rule::Label.broken(label.at.start)),
+        }
+    }
+
+    /// The place of the first statement that has a label of the block.
+    fn place_of(&self, value: u32) -> Option<u32>
+        ensures { result ≡ spec.place_in self.now.labels value }
+    {
+        match self.labels.get(&value) {
+            Some(declared) => match declared.placed {
+                Some(placed) => Some(placed.at),
+                None => None,
+            },
+            None => None,
+        }
+    }
+}
+
+impl Placement {
+    /// Whether a `goto` that stands at `at` may lead here; `inner` says whether it stands in the same block.
+    fn is_reached(&self, inner: bool, at: u32) -> bool
+        ensures { result ≡ spec.may_reach inner at self.now }
+    {
+        self.outermost || (inner && self.from <= at && at <= self.to)
+    }
+}
+
+impl LabelDecl {
+    /// Whether a `goto` that stands at `at` may not lead to its statement. Where there is none the label is at fault.
+    fn is_out_of_reach(&self, inner: bool, at: u32) -> bool
+        ensures { result ≡ spec.is_out_of_reach inner at self.now }
+    {
+        match &self.placed {
+            Some(placed) => !placed.is_reached(inner, at),
+            None => false,
+        }
+    }
+}
+
+/// The routine whose block declares the label of a `goto` that stands at `at`: the innermost of these, which stand from the
+/// outside to the inside. `inner` says whether the `goto` stands in the last of them.
+fn left_for(scopes: &[Scope], label: Label, at: u32, inner: bool) -> Result<u32, Fault>
+    ensures value { Gives (λ r. r) (spec.left_for (reverse scopes.now) label at inner) result }
+{
+    let Some((scope, around)) = scopes.split_last() else {
+        return Err(Rule::Label.broken(label.at.start));
+    };
+    match scope.labels.get(&label.value) {
+        Some(declared) => {
+            if declared.is_out_of_reach(inner, at) {
+                Err(Rule::Goto.broken(label.at.start))
+            } else {
+                Ok(scope.routine)
+            }
+        }
+        None => left_for(around, label, at, false),
+    }
+}
+
+impl<'t> Seen<'t> {
+    /// Tests a label at a statement: its block declares it, and no statement before has it.
+    pub fn placed_label(&self, label: Label) -> Result<u32, Fault>
+        ensures value { Gives (λ n. n) (spec.placed_by (first_scope (reverse self.now.scopes.items)) label) result }
+    {
+        match innermost(self.scopes.as_slice()) {
+            Some(scope) => scope.placed_label(label),
+            None => Err(Rule::Label.broken(label.at.start)),
         }
     }
 
     /// A `goto` that stands at `at`: to a statement that contains it, a member of a sequence that contains it, or a member
     /// of the outermost sequence of a block around it.
-    pub fn goto(&self, label: Label, at: u32) -> Result<Body, Fault> {
-        let mut inner = true;
-        for scope in self.scopes.iter().rev() {
-            if let Some(declared) = scope.labels.get(&label.value) {
-                let reached = declared.placed.is_none_or(|placed| {
-                    placed.outermost || (inner && placed.from <= at && at <= placed.to)
-                });
-                return if reached {
-                    Ok(Body::Goto {
-                        routine: scope.routine,
-                        label: label.value,
-                    })
-                } else {
-                    Err(Rule::Goto.broken(label.at.start))
-                };
-            }
-            inner = false;
+    pub fn goto(&self, label: Label, at: u32) -> Result<Body, Fault>
+        ensures value { Gives (λ b. tt) (spec.goto_allowed (reverse self.now.scopes.items) label at) result }
+    {
+        let routine = left_for(self.scopes.as_slice(), label, at, true)?;
+        Ok(Body::Goto {
+            routine,
+            label: label.value,
+        })
+    }
+}
+
+impl<'t> Checker<'t> {
+    /// The label part of a block.
+    pub fn label_part(&mut self, labels: &[Label]) -> Result<(), Fault> {
+        for label in labels {
+            let Some(scope) = self.seen.scopes.last_mut() else {
+                return Ok(());
+            };
+            scope.declare_label(*label)?;
         }
-        Err(Rule::Label.broken(label.at.start))
+        Ok(())
     }
 }

@@ -20,6 +20,7 @@ mod names;
 mod plan;
 mod routine;
 mod scope;
+mod seen;
 mod statement;
 mod transput;
 mod type_expr;

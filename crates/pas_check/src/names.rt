@@ -1,32 +1,31 @@
-use indexmap::IndexMap;
-use std::alloc::{AllocError, Global};
+//! How names are spelled (ISO 7185, 6.1.1).
 
-/// The names of a program. Upper and lower case are equal (ISO 7185, 6.1.1), and a name is a number.
-#[derive(Drop)]
-pub struct Names {
-    known: IndexMap<Vec<u8>, ()>,
-    lower: Vec<u8>,
+ghost use Rattle.std.specs.Prelude.{◌≡◌, OnOk};
+ghost use Rattle.std.specs.Str.{str_to_ascii_lowercase};
+ghost use Rattle.pas_check.specs.Names as spec;
+
+use px_base::Span;
+use std::alloc::AllocError;
+
+/// The bytes of a span of a text.
+pub fn spelling(text: &[u8], span: Span) -> &[u8]
+    ensures { result.now ≡ spec.spelling text.now span }
+{
+    let (start, end) = (span.start as usize, span.end as usize);
+    if start <= end && end <= text.len() {
+        &text[start..end]
+    } else {
+        &[]
+    }
 }
 
-impl Names {
-    pub fn new(alloc: Global) -> Names {
-        Names {
-            known: IndexMap::new(alloc),
-            lower: Vec::new(alloc),
-        }
+/// Puts a spelling into a buffer, in lower case.
+pub fn lower_case(bytes: &[u8], lower: &mut Vec<u8>) -> Result<(), AllocError>
+    ensures { OnOk result (lower.new.items ≡ str_to_ascii_lowercase bytes.now) }
+{
+    lower.clear();
+    for byte in bytes {
+        lower.push(byte.to_ascii_lowercase())?;
     }
-
-    /// The number of a name, the same for each way to spell it.
-    pub fn number(&mut self, alloc: Global, spelling: &[u8]) -> Result<usize, AllocError> {
-        self.lower.clear();
-        for byte in spelling {
-            self.lower.push(byte.to_ascii_lowercase())?;
-        }
-        if let Some(number) = self.known.get_index_of(self.lower.as_slice()) {
-            return Ok(number);
-        }
-        let name = Vec::from_slice(alloc, self.lower.as_slice())?;
-        let (number, _) = self.known.insert_full(name, ())?;
-        Ok(number)
-    }
+    Ok(())
 }

@@ -6,7 +6,7 @@ use crate::scope::Scope;
 use indexmap::IndexMap;
 use pas_tree::{Block, Routine, RoutineBody, Section, VarDecl};
 use px_base::Span;
-use std::alloc::AllocError;
+use std::alloc::{AllocError, Global};
 
 /// A heading of a block, and what it goes with.
 #[derive(Clone, Copy, Debug, PartialEq, Eq)]
@@ -43,12 +43,13 @@ fn push(plans: &mut Vec<Plan>, plan: Plan) -> Result<(), AllocError> {
 }
 
 fn open(
-    forwards: &mut IndexMap<usize, usize>,
-    name: usize,
+    alloc: Global,
+    forwards: &mut IndexMap<Vec<u8>, usize>,
+    name: &[u8],
     heading: usize,
 ) -> Result<(), AllocError> {
-    if !forwards.contains_key(&name) {
-        forwards.insert(name, heading)?;
+    if !forwards.contains_key(name) {
+        forwards.insert(Vec::from_slice(alloc, name)?, heading)?;
     }
     Ok(())
 }
@@ -56,11 +57,12 @@ fn open(
 impl<'t> Checker<'t> {
     /// Which number each heading of a block has, and which of them go together.
     pub fn plans(&mut self, routines: &[Routine]) -> Result<Vec<Plan>, Fault> {
-        let mut plans = Vec::new(self.alloc);
-        let mut forwards: IndexMap<usize, usize> = IndexMap::new(self.alloc);
-        let mut next = u32::try_from(self.routines.len()).unwrap_or(u32::MAX);
+        let mut plans = Vec::new(self.seen.alloc);
+        let mut forwards: IndexMap<Vec<u8>, usize> = IndexMap::new(self.seen.alloc);
+        let mut next = u32::try_from(self.made.routines.len()).unwrap_or(u32::MAX);
         for (heading, routine) in routines.iter().enumerate() {
-            let name = self.name(routine.name)?;
+            self.made.spell(self.seen.text, routine.name)?;
+            let name = self.made.lower.as_slice();
             let mut plan = Plan {
                 number: next,
                 body: None,
@@ -68,7 +70,7 @@ impl<'t> Checker<'t> {
             };
             match &routine.body {
                 RoutineBody::Word(_) => {
-                    open(&mut forwards, name, heading).map_err(Fault::Memory)?;
+                    open(self.seen.alloc, &mut forwards, name, heading).map_err(Fault::Memory)?;
                 }
                 RoutineBody::Block(block) => {
                     plan.number = next.saturating_add(count_bodies(block));
@@ -117,23 +119,26 @@ impl<'t> Checker<'t> {
     }
 
     fn note(&mut self, scope: &mut Scope, name: Span) -> Result<(), Fault> {
-        let number = self.name(name)?;
-        scope.note(number, name.start).map_err(Fault::Memory)
+        self.made.spell(self.seen.text, name)?;
+        scope
+            .names
+            .note(self.seen.alloc, self.made.lower.as_slice(), name.start)
+            .map_err(Fault::Memory)
     }
 }
 
 /// The `forward` heading that a body with this name and word belongs to, which has no body so far.
 fn forward_of(
-    forwards: &mut IndexMap<usize, usize>,
+    forwards: &mut IndexMap<Vec<u8>, usize>,
     routines: &[Routine],
-    name: usize,
+    name: &[u8],
     function: bool,
 ) -> Option<usize> {
-    let forward = forwards.get(&name).copied()?;
+    let forward = forwards.get(name).copied()?;
     if routines.get(forward)?.function != function {
         return None;
     }
-    forwards.swap_remove(&name)
+    forwards.swap_remove(name)
 }
 
 /// Gives a `forward` heading its body and that body's number.

@@ -1,5 +1,14 @@
 //! Procedures and functions (ISO 7185, 6.6.1 and 6.6.2).
 
+ghost use Rattle.std.specs.Prelude.{◌≡◌, slice_get};
+ghost use Rattle.std.specs.Option.{option_map};
+ghost use Rattle.pas_check.specs.Expr as spec;
+ghost use Rattle.pas_check.specs.Expr.{call_shown, callee_at, formals_at, result_inside};
+ghost use Rattle.pas_check.specs.Outcome.{Gives};
+ghost use Rattle.pas_check.specs.Routine as allowed;
+ghost use Rattle.pas_check.specs.Sight.{sight};
+ghost use Rattle.pas_tree.specs.declared.block.RoutineBody.TheViews.{out-Routine};
+
 use crate::actual::Formal;
 use crate::checker::Checker;
 use crate::fault::{Fault, Rule};
@@ -7,10 +16,11 @@ use crate::frame::Frame;
 use crate::meaning::{Meaning, Variable};
 use crate::plan::Plan;
 use crate::scope::Scope;
+use crate::seen::Seen;
 use pas_program::VarKind;
 use pas_tree::{Block, Routine, RoutineBody, Section};
 use px_base::Span;
-use sqlite_items::Items;
+use sqlite_items::{Items, at};
 use std::alloc::AllocError;
 
 /// How many routines may be around a routine.
@@ -31,9 +41,31 @@ pub struct Head {
     waiting: Option<Scope>,
     pub has_body: bool,
     /// Whether the walk is inside its block.
-    open: bool,
+    inside: bool,
     /// Whether its block assigns to its name.
     assigned: bool,
+}
+
+impl Head {
+    fn result_assigned(&self) -> Result<(), Fault>
+        ensures value { Gives (λ u. u) (allowed.result_assigned self.now) result }
+    {
+        if self.result.is_some() && !self.assigned {
+            Err(Rule::Result.broken(self.name.start))
+        } else {
+            Ok(())
+        }
+    }
+
+    fn body_given(&self) -> Result<(), Fault>
+        ensures value { Gives (λ u. u) (allowed.body_given self.now) result }
+    {
+        if self.has_body {
+            Ok(())
+        } else {
+            Err(Rule::Body.broken(self.name.start))
+        }
+    }
 }
 
 /// What a call needs of a routine.
@@ -55,37 +87,79 @@ fn push_formal(formals: &mut Vec<Formal>, formal: Formal) -> Result<(), AllocErr
     Ok(())
 }
 
-impl<'t> Checker<'t> {
-    pub fn callee(&self, head: usize) -> Option<Callee> {
-        let head = self.heads.get(head)?;
+/// Tests a heading that declares its name: a function has a result type, and not too many routines are around it.
+fn heading_allowed(routine: &Routine, around: u32) -> Result<(), Fault>
+    ensures value { Gives (λ u. u) (allowed.heading_allowed (out-Routine routine.now) around) result }
+{
+    if routine.function && routine.result.is_none() {
+        return Err(Rule::Kind.broken(routine.name.start));
+    }
+    if around >= MOST_AROUND {
+        return Err(Rule::Nesting.broken(routine.name.start));
+    }
+    Ok(())
+}
+
+/// The heading of a body whose `forward` heading came before is the name alone.
+fn repeated_heading(routine: &Routine) -> Result<(), Fault>
+    ensures value { Gives (λ u. u) (allowed.repeated_heading (out-Routine routine.now)) result }
+{
+    if routine.formals.is_empty() && routine.result.is_none() {
+        Ok(())
+    } else {
+        Err(Rule::DeclaredOnce.broken(routine.name.start))
+    }
+}
+
+/// The type of a function's result.
+fn type_of_result(result_variable: Option<Variable>) -> u32
+    ensures { result ≡ spec.type_of_result result_variable }
+{
+    match result_variable {
+        Some(own) => own.of_type,
+        None => 0,
+    }
+}
+
+impl<'t> Seen<'t> {
+    /// What a call needs of the routine with this heading.
+    #[tactic(auto, unfolding(crate::specs::Sight::sight))]
+    pub fn callee(&self, head: usize) -> Option<Callee>
+        ensures { option_map call_shown result ≡ callee_at (sight self.now) head }
+    {
+        let head = at(self.heads.as_slice(), head)?;
         Some(Callee {
             routine: head.routine,
             formals: head.formals.len(),
-            result: head.result.map_or(0, |own| own.of_type),
+            result: type_of_result(head.result),
         })
     }
 
     /// The formal at a place of a routine's list.
-    pub fn formal(&self, head: usize, place: usize) -> Option<Formal> {
-        self.heads.get(head)?.formals.get(place).copied()
+    #[tactic(auto, unfolding(crate::specs::Sight::sight))]
+    pub fn formal(&self, head: usize, place: usize) -> Option<Formal>
+        ensures { result ≡ slice_get (formals_at (sight self.now) head) place }
+    {
+        let head = at(self.heads.as_slice(), head)?;
+        at(head.formals.as_slice(), place).copied()
     }
 
     /// The result of a function, inside its block.
-    pub fn result_of(&self, head: usize) -> Option<Variable> {
-        let head = self.heads.get(head)?;
-        if head.open { head.result } else { None }
+    #[tactic(auto, unfolding(crate::specs::Sight::sight))]
+    pub fn result_of(&self, head: usize) -> Option<Variable>
+        ensures { result ≡ result_inside (sight self.now) head }
+    {
+        let head = at(self.heads.as_slice(), head)?;
+        if head.inside { head.result } else { None }
     }
+}
 
+impl<'t> Checker<'t> {
     /// Takes note that a function's block assigns to its name.
     pub fn assign_result(&mut self, head: usize) {
-        if let Some(head) = self.heads.get_mut(head) {
+        if let Some(head) = self.seen.heads.get_mut(head) {
             head.assigned = true;
         }
-    }
-
-    /// The slot for the result of a call.
-    pub fn slot(&mut self, name: Span, of_type: u32) -> Result<Variable, Fault> {
-        self.variable(name, VarKind::Slot, of_type)
     }
 
     /// A heading with its block, if it has one; `later` is the block of a `forward` heading's body.
@@ -98,7 +172,7 @@ impl<'t> Checker<'t> {
         later: Option<&Block>,
     ) -> Result<usize, Fault> {
         if let Some(head) = forward {
-            self.repeated_heading(routine)?;
+            repeated_heading(routine)?;
             if let RoutineBody::Block(block) = &routine.body {
                 let scope = self.waiting_scope(head);
                 self.routine_block(head, scope, block)?;
@@ -119,17 +193,8 @@ impl<'t> Checker<'t> {
         }
     }
 
-    /// The heading of a body whose `forward` heading came before is the name alone.
-    fn repeated_heading(&self, routine: &Routine) -> Result<(), Fault> {
-        if routine.formals.is_empty() && routine.result.is_none() {
-            Ok(())
-        } else {
-            Err(Rule::DeclaredOnce.broken(routine.name.start))
-        }
-    }
-
     fn waiting_scope(&mut self, head: usize) -> Option<Scope> {
-        self.heads.get_mut(head)?.waiting.take()
+        self.seen.heads.get_mut(head)?.waiting.take()
     }
 
     /// A heading that declares its name, and the names of its own block.
@@ -140,17 +205,13 @@ impl<'t> Checker<'t> {
         block: Option<&Block>,
     ) -> Result<(usize, Scope), Fault> {
         let name = routine.name;
-        self.claim(name)?;
-        if routine.function && routine.result.is_none() {
-            return Err(Rule::Kind.broken(name.start));
-        }
-        if self.frame.level >= MOST_AROUND {
-            return Err(Rule::Nesting.broken(name.start));
-        }
-        let head = self.heads.len();
+        self.seen.claim(&mut self.made, name)?;
+        heading_allowed(routine, self.made.frame.level)?;
+        let head = self.seen.heads.len();
         let function = routine.function;
-        self.define(name, Meaning::Routine { head, function })?;
-        let mut scope = Scope::new(self.alloc, number);
+        self.seen
+            .define(&mut self.made, name, Meaning::Routine { head, function })?;
+        let mut scope = Scope::new(self.seen.alloc, number);
         self.note_formals(&mut scope, routine.formals.as_slice())?;
         if let Some(block) = block {
             self.note_block(&mut scope, block)?;
@@ -158,13 +219,13 @@ impl<'t> Checker<'t> {
         let mut made = Head {
             name,
             routine: number,
-            level: self.frame.level.saturating_add(1),
-            formals: Vec::new(self.alloc),
-            numbers: Items::new(self.alloc),
+            level: self.made.frame.level.saturating_add(1),
+            formals: Vec::new(self.seen.alloc),
+            numbers: Items::new(self.seen.alloc),
             result: None,
             waiting: None,
             has_body: false,
-            open: false,
+            inside: false,
             assigned: false,
         };
         self.push_scope(scope)?;
@@ -173,12 +234,12 @@ impl<'t> Checker<'t> {
         if let Some(of_type) = routine.result {
             made.result = Some(self.result(name, number, of_type)?);
         }
-        push_head(&mut self.heads, made).map_err(Fault::Memory)?;
+        push_head(&mut self.seen.heads, made).map_err(Fault::Memory)?;
         Ok((head, scope))
     }
 
     pub fn push_scope(&mut self, scope: Scope) -> Result<(), Fault> {
-        match self.scopes.push(scope) {
+        match self.seen.scopes.push(scope) {
             Ok(()) => Ok(()),
             Err(_) => Err(Fault::Memory(AllocError)),
         }
@@ -186,16 +247,16 @@ impl<'t> Checker<'t> {
 
     /// The innermost block's names, which are taken off.
     pub fn pop_scope(&mut self, number: u32) -> Scope {
-        match self.scopes.pop() {
+        match self.seen.scopes.pop() {
             Some(scope) => scope,
-            None => Scope::new(self.alloc, number),
+            None => Scope::new(self.seen.alloc, number),
         }
     }
 
     fn formals(&mut self, head: &mut Head, sections: &[Section]) -> Result<(), Fault> {
         for section in sections {
             self.claim_names(section.names.as_slice())?;
-            let of_type = self.named_type(section.of_type)?;
+            let of_type = self.seen.named_type(&mut self.made, section.of_type)?;
             for name in section.names.as_slice() {
                 self.formal_declared(head, *name, section.by_var, of_type)?;
             }
@@ -206,8 +267,8 @@ impl<'t> Checker<'t> {
     /// Declares names whose type is still to be read.
     pub fn claim_names(&mut self, names: &[Span]) -> Result<(), Fault> {
         for name in names {
-            self.claim(*name)?;
-            self.define(*name, Meaning::Untyped)?;
+            self.seen.claim(&mut self.made, *name)?;
+            self.seen.define(&mut self.made, *name, Meaning::Untyped)?;
         }
         Ok(())
     }
@@ -220,33 +281,32 @@ impl<'t> Checker<'t> {
         of_type: u32,
     ) -> Result<(), Fault> {
         let kind = if by_var { VarKind::Var } else { VarKind::Value };
-        let variable = self
-            .add_variable(name, head.routine, kind, of_type)
-            .map_err(Fault::Memory)?;
-        self.define(name, Meaning::Variable(variable))?;
+        let variable = self.made.add_variable(name, head.routine, kind, of_type)?;
+        self.seen
+            .define(&mut self.made, name, Meaning::Variable(variable))?;
         head.numbers.push(variable.number).map_err(Fault::Memory)?;
         push_formal(&mut head.formals, Formal { by_var, of_type }).map_err(Fault::Memory)
     }
 
     /// The variable for the result of a function, whose type is a scalar.
     fn result(&mut self, name: Span, routine: u32, of_type: Span) -> Result<Variable, Fault> {
-        let number = self.named_type(of_type)?;
-        if self.types.host(number).is_none() {
+        let number = self.seen.named_type(&mut self.made, of_type)?;
+        if self.seen.types.host(number).is_none() {
             return Err(Rule::Type.broken(of_type.start));
         }
-        self.add_variable(name, routine, VarKind::Result, number)
-            .map_err(Fault::Memory)
+        self.made
+            .add_variable(name, routine, VarKind::Result, number)
     }
 
     /// A heading with the word `forward` in place of a block.
     fn forward(&mut self, head: usize, scope: Scope, word: Span) -> Result<(), Fault> {
-        if !self.spelling(word).eq_ignore_ascii_case(b"forward") {
+        if !self.seen.spelling(word).eq_ignore_ascii_case(b"forward") {
             return Err(Rule::Kind.broken(word.start));
         }
-        if let Some(made) = self.heads.get_mut(head) {
+        if let Some(made) = self.seen.heads.get_mut(head) {
             made.waiting = Some(scope);
         }
-        match self.scopes.last_mut() {
+        match self.seen.scopes.last_mut() {
             Some(around) => around.add_forward(head).map_err(Fault::Memory),
             None => Ok(()),
         }
@@ -265,8 +325,8 @@ impl<'t> Checker<'t> {
         let outer = self.exchange_frame(frame);
         self.push_scope(scope)?;
         let body = self.block(block, Some(head))?;
-        if let Some(made) = self.heads.get_mut(head) {
-            made.open = false;
+        if let Some(made) = self.seen.heads.get_mut(head) {
+            made.inside = false;
         }
         let done = self.exchange_frame(outer);
         self.add_routine(done, body)
@@ -274,10 +334,10 @@ impl<'t> Checker<'t> {
 
     /// The frame of a routine whose block begins.
     fn entered(&mut self, head: usize, scope: Option<Scope>) -> Option<(Frame, Scope)> {
-        let parent = Some(self.frame.routine);
-        let alloc = self.alloc;
-        let made = self.heads.get_mut(head)?;
-        made.open = true;
+        let parent = Some(self.made.frame.routine);
+        let alloc = self.seen.alloc;
+        let made = self.seen.heads.get_mut(head)?;
+        made.inside = true;
         made.has_body = true;
         let numbers = std::mem::replace(&mut made.numbers, Items::new(alloc));
         let returned = made.result.map(|own| own.number);
@@ -295,19 +355,17 @@ impl<'t> Checker<'t> {
 
     /// Tests that a function's block assigned to its name.
     pub fn result_assigned(&self, head: Option<usize>) -> Result<(), Fault> {
-        match head.and_then(|head| self.heads.get(head)) {
-            Some(head) if head.result.is_some() && !head.assigned => {
-                Err(Rule::Result.broken(head.name.start))
-            }
-            _ => Ok(()),
+        match head.and_then(|head| self.seen.heads.get(head)) {
+            Some(head) => head.result_assigned(),
+            None => Ok(()),
         }
     }
 
     /// Tests that a `forward` heading got its body.
     pub fn body_given(&self, head: usize) -> Result<(), Fault> {
-        match self.heads.get(head) {
-            Some(head) if !head.has_body => Err(Rule::Body.broken(head.name.start)),
-            _ => Ok(()),
+        match self.seen.heads.get(head) {
+            Some(head) => head.body_given(),
+            None => Ok(()),
         }
     }
 }

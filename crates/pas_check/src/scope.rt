@@ -1,7 +1,14 @@
+ghost use Rattle.std.specs.Prelude.{◌≡◌, [], OnErr, OnOk, Some, map, reverse};
+ghost use Rattle.std.specs.Option.{option_copied};
+ghost use Rattle.pas_check.specs.Labels.{first_scope};
+ghost use Rattle.pas_check.specs.Names as spec;
+ghost use Rattle.pas_check.specs.Names.{ended, found_in, noted, with_meaning};
+
 use crate::label::LabelDecl;
 use crate::meaning::Meaning;
 use indexmap::IndexMap;
 use std::alloc::{AllocError, Global};
+use std::marker::Model;
 
 /// The first declaration of a name in a block.
 #[derive(Clone, Copy, Debug, PartialEq, Eq)]
@@ -12,13 +19,87 @@ pub struct Declaration {
     pub meaning: Option<Meaning>,
 }
 
+/// The names that a block declares, in lower case, each with its first declaration.
+#[derive(Drop)]
+pub struct Names {
+    declared: IndexMap<Vec<u8>, Declaration>,
+}
+
+impl Model for Names {
+    ghost use Rattle.std.specs.Prelude.{List, ℕ, map};
+    ghost use Rattle.pas_check.specs.declared.scope.Declaration.{Declaration};
+
+    ghost Value = { List (List ℕ × Declaration) };
+
+    ghost view = { λ n. map (λ e. (e.0.items, e.1)) n.declared.entries };
+}
+
+impl Names {
+    pub fn new(alloc: Global) -> Names
+        ensures { result ≡ [] }
+    {
+        Names {
+            declared: IndexMap::new(alloc),
+        }
+    }
+
+    /// The declaration of a name in lower case.
+    pub fn get(&self, name: &[u8]) -> Option<Declaration>
+        ensures { result ≡ found_in name.now self.now }
+    {
+        self.declared.get(name).copied()
+    }
+
+    /// Takes note that the block declares a name at a place. The first place counts.
+    pub fn note(&mut self, alloc: Global, name: &[u8], at: u32) -> Result<(), AllocError>
+        ensures ok { OnOk result (self.new ≡ noted name.now at self.old) }
+        ensures err { OnErr result (self.new ≡ self.old) }
+    {
+        match self.get(name) {
+            Some(_) => Ok(()),
+            None => self.set(alloc, name, Declaration { at, meaning: None }),
+        }
+    }
+
+    /// Gives a name its meaning, at the end of its declaration.
+    pub fn end(
+        &mut self,
+        alloc: Global,
+        name: &[u8],
+        at: u32,
+        meaning: Meaning,
+    ) -> Result<(), AllocError>
+        ensures ok { OnOk result (self.new ≡ ended name.now at meaning self.old) }
+        ensures err { OnErr result (self.new ≡ self.old) }
+    {
+        let declaration = Declaration {
+            at,
+            meaning: Some(meaning),
+        };
+        self.set(alloc, name, declaration)
+    }
+
+    fn set(
+        &mut self,
+        alloc: Global,
+        name: &[u8],
+        declaration: Declaration,
+    ) -> Result<(), AllocError>
+        ensures ok { OnOk result (self.new ≡ with_meaning name.now declaration self.old) }
+        ensures err { OnErr result (self.new ≡ self.old) }
+    {
+        let key = Vec::from_slice(alloc, name)?;
+        self.declared.insert(key, declaration)?;
+        Ok(())
+    }
+}
+
 /// What one block declares.
 #[derive(Drop)]
 pub struct Scope {
     /// The number of the block's routine.
     pub routine: u32,
-    /// The first declaration of each name, by the name's number.
-    names: IndexMap<usize, Declaration>,
+    pub names: Names,
     /// The labels by their values.
     pub labels: IndexMap<u32, LabelDecl>,
     /// The `forward` headings, by their places among the headings.
@@ -26,49 +107,40 @@ pub struct Scope {
 }
 
 impl Scope {
-    pub fn new(alloc: Global, routine: u32) -> Scope {
+    pub fn new(alloc: Global, routine: u32) -> Scope
+        ensures names { result.names ≡ [] }
+    {
         Scope {
             routine,
-            names: IndexMap::new(alloc),
+            names: Names::new(alloc),
             labels: IndexMap::new(alloc),
             forwards: Vec::new(alloc),
         }
     }
 
-    /// Takes note that the block declares a name at a place. The first place counts.
-    pub fn note(&mut self, name: usize, at: u32) -> Result<(), AllocError> {
-        if !self.names.contains_key(&name) {
-            self.names.insert(name, Declaration { at, meaning: None })?;
-        }
-        Ok(())
-    }
-
-    pub fn declaration(&self, name: usize) -> Option<Declaration> {
-        self.names.get(&name).copied()
-    }
-
-    /// Gives a name its meaning, at the end of its declaration.
-    pub fn define(&mut self, name: usize, at: u32, meaning: Meaning) -> Result<(), AllocError> {
-        self.names.insert(
-            name,
-            Declaration {
-                at,
-                meaning: Some(meaning),
-            },
-        )?;
+    pub fn add_forward(&mut self, head: usize) -> Result<(), AllocError> {
+        self.forwards.push(head)?;
         Ok(())
     }
 }
 
-/// Labels and `forward` headings.
-impl Scope {
-    pub fn declare_label(&mut self, value: u32, at: u32) -> Result<(), AllocError> {
-        self.labels.insert(value, LabelDecl { at, placed: None })?;
-        Ok(())
+/// The declaration of a name in the innermost of these blocks that declares it; the innermost stands last.
+pub fn denoted(scopes: &[Scope], name: &[u8]) -> Option<Declaration>
+    ensures { result ≡ spec.denoted name.now (map (λ s. s.names) (reverse scopes.now)) }
+{
+    let (innermost, around) = scopes.split_last()?;
+    match innermost.names.get(name) {
+        Some(declaration) => Some(declaration),
+        None => denoted(around, name),
     }
+}
 
-    pub fn add_forward(&mut self, head: usize) -> Result<(), AllocError> {
-        self.forwards.push(head)?;
-        Ok(())
+/// The innermost of these blocks, which stands last.
+pub fn innermost(scopes: &[Scope]) -> Option<&Scope>
+    ensures { option_copied result ≡ first_scope (reverse scopes.now) }
+{
+    match scopes.split_last() {
+        Some((innermost, _)) => Some(innermost),
+        None => None,
     }
 }

@@ -1,13 +1,22 @@
 //! Statements (ISO 7185, 6.8).
 
+ghost use Rattle.std.specs.Prelude.{◌≡◌, is_some, map};
+ghost use Rattle.std.specs.Ordering.{int_eq};
+ghost use Rattle.indexmap.specs.IndexMap.{get};
+ghost use Rattle.pas_check.specs.Expr.{found};
+ghost use Rattle.pas_check.specs.Outcome.{Gives};
+ghost use Rattle.pas_check.specs.Sight.{sight};
+ghost use Rattle.pas_check.specs.Statement as spec;
+
 use crate::access::Reached;
 use crate::checker::Checker;
 use crate::expr::Typed;
 use crate::fault::{Fault, Rule};
 use crate::meaning::{Meaning, Variable};
+use crate::seen::{Made, Seen};
 use indexmap::IndexMap;
 use pas_program::{Access, Arm, Assert, Body, Expr, Statement, VarKind};
-use pas_tree::{Assertion, Constant, Element, span_of};
+use pas_tree::{Assertion, Constant, Element};
 use px_base::Span;
 use sqlite_items::{Boxed, Items};
 use std::alloc::AllocError;
@@ -24,7 +33,7 @@ struct ForHead {
 impl<'t> Checker<'t> {
     #[cycle(statement)]
     pub fn sequence(&mut self, body: &[pas_tree::Statement]) -> Result<Items<Statement>, Fault> {
-        let mut list = Items::new(self.alloc);
+        let mut list = Items::new(self.seen.alloc);
         for statement in body {
             let checked = self.statement(statement)?;
             list.push(checked).map_err(Fault::Memory)?;
@@ -35,7 +44,7 @@ impl<'t> Checker<'t> {
     #[cycle(statement)]
     fn statement(&mut self, statement: &pas_tree::Statement) -> Result<Statement, Fault> {
         let label = match statement.label {
-            Some(label) => Some(self.placed_label(label)?),
+            Some(label) => Some(self.seen.placed_label(label)?),
             None => None,
         };
         let asserts = self.assertions(statement.asserts.as_slice())?;
@@ -51,19 +60,19 @@ impl<'t> Checker<'t> {
     #[cycle(statement)]
     fn boxed(&mut self, statement: &pas_tree::Statement) -> Result<Boxed<Statement>, Fault> {
         let checked = self.statement(statement)?;
-        Boxed::new(self.alloc, checked).map_err(Fault::Memory)
+        Boxed::new(self.seen.alloc, checked).map_err(Fault::Memory)
     }
 
     /// The numbers of the assertions of a statement.
     fn assertions(&mut self, assertions: &[Assertion]) -> Result<Items<u32>, Fault> {
-        let mut numbers = Items::new(self.alloc);
+        let mut numbers = Items::new(self.seen.alloc);
         for assertion in assertions {
-            self.asserting = true;
-            let cond = self.of_host(&assertion.cond, true)?;
-            self.asserting = false;
+            self.seen.asserting = true;
+            let cond = self.seen.of_host(&mut self.made, &assertion.cond, true)?;
+            self.seen.asserting = false;
             let number = self
                 .add_assert(Assert {
-                    routine: self.frame.routine,
+                    routine: self.seen.routine,
                     sometime: assertion.sometime,
                     cond,
                     at: assertion.span.start,
@@ -75,8 +84,8 @@ impl<'t> Checker<'t> {
     }
 
     fn add_assert(&mut self, assert: Assert) -> Result<u32, AllocError> {
-        let number = u32::try_from(self.asserts.len()).map_err(|_| AllocError)?;
-        self.asserts.push(assert)?;
+        let number = u32::try_from(self.made.asserts.len()).map_err(|_| AllocError)?;
+        self.made.asserts.push(assert)?;
         Ok(number)
     }
 
@@ -84,15 +93,17 @@ impl<'t> Checker<'t> {
     fn body(&mut self, body: &pas_tree::Body, at: Span) -> Result<Body, Fault> {
         match body {
             pas_tree::Body::Empty => Ok(Body::Empty),
-            pas_tree::Body::Call { name, actuals } => self.call(*name, actuals.as_slice()),
+            pas_tree::Body::Call { name, actuals } => {
+                self.seen.call(&mut self.made, *name, actuals.as_slice())
+            }
             pas_tree::Body::Assign { to, value } => self.assignment(to, value),
-            pas_tree::Body::Goto { label } => self.goto(*label, at.start),
+            pas_tree::Body::Goto { label } => self.seen.goto(*label, at.start),
             pas_tree::Body::Begin { body } => Ok(Body::Begin {
                 body: self.sequence(body.as_slice())?,
                 end: at.start,
             }),
             pas_tree::Body::If { cond, yes, no } => Ok(Body::If {
-                cond: self.of_host(cond, true)?,
+                cond: self.seen.of_host(&mut self.made, cond, true)?,
                 yes: self.boxed(yes.get())?,
                 no: match no {
                     Some(no) => Some(self.boxed(no.get())?),
@@ -100,18 +111,18 @@ impl<'t> Checker<'t> {
                 },
             }),
             pas_tree::Body::Case { of, arms } => {
-                let (of, boolean) = self.scalar(of)?;
+                let (of, boolean) = self.seen.scalar(&mut self.made, of)?;
                 let arms = self.arms(arms.as_slice(), boolean)?;
                 Ok(Body::Case { of, arms })
             }
             pas_tree::Body::While { cond, body } => Ok(Body::While {
-                cond: self.of_host(cond, true)?,
+                cond: self.seen.of_host(&mut self.made, cond, true)?,
                 body: self.boxed(body.get())?,
             }),
             pas_tree::Body::Repeat { body, until, cond } => Ok(Body::Repeat {
                 body: self.sequence(body.as_slice())?,
                 at: until.start,
-                cond: self.of_host(cond, true)?,
+                cond: self.seen.of_host(&mut self.made, cond, true)?,
             }),
             pas_tree::Body::For {
                 control,
@@ -144,10 +155,10 @@ impl<'t> Checker<'t> {
         last: &pas_tree::Expr,
         at: Span,
     ) -> Result<ForHead, Fault> {
-        let (variable, boolean) = self.control(control)?;
-        let bound = self.variable(at, VarKind::Bound, variable.of_type)?;
-        let first = self.of_host(first, boolean)?;
-        let last = self.of_host(last, boolean)?;
+        let (variable, boolean) = self.seen.control(&mut self.made, control)?;
+        let bound = self.made.variable(at, VarKind::Bound, variable.of_type)?;
+        let first = self.seen.of_host(&mut self.made, first, boolean)?;
+        let last = self.seen.of_host(&mut self.made, last, boolean)?;
         Ok(ForHead {
             variable,
             bound: bound.number,
@@ -156,46 +167,20 @@ impl<'t> Checker<'t> {
         })
     }
 
-    /// The target and the value of an assignment.
+    /// An assignment.
     fn assignment(&mut self, to: &pas_tree::Access, value: &pas_tree::Expr) -> Result<Body, Fault> {
-        let target = self.target(to)?;
-        self.threaten(target.whole, to.name.start)?;
-        let host = self.types.host(target.of_type);
-        match self.expr(value)? {
-            Typed::Scalar { expr, boolean } if host == Some(boolean) => Ok(Body::Assign {
-                to: target.access,
-                value: expr,
-            }),
-            Typed::Array { access, of_type } if of_type == target.of_type => Ok(Body::Copy {
-                to: target.access,
-                from: access,
-            }),
-            _ => Err(Rule::Type.broken(span_of(value).start)),
+        let (body, function) = self.seen.assignment(&mut self.made, to, value)?;
+        if let Some(head) = function {
+            self.assign_result(head);
         }
-    }
-
-    /// What is assigned to: a variable, or inside a function's block its result.
-    fn target(&mut self, to: &pas_tree::Access) -> Result<Reached, Fault> {
-        let kind = Rule::Kind.broken(to.name.start);
-        let variable = match self.meaning(to.name)? {
-            Meaning::Variable(variable) => variable,
-            Meaning::Routine { head, .. } => {
-                let Some(own) = self.result_of(head) else {
-                    return Err(kind);
-                };
-                self.assign_result(head);
-                own
-            }
-            _ => return Err(kind),
-        };
-        self.reached(variable, to.name, to.subscripts.as_slice())
+        Ok(body)
     }
 
     /// The arms of a `case` whose selector has this host.
     #[cycle(statement)]
     fn arms(&mut self, arms: &[Element], boolean: bool) -> Result<Items<Arm>, Fault> {
-        let mut seen = IndexMap::new(self.alloc);
-        let mut list = Items::new(self.alloc);
+        let mut seen = IndexMap::new(self.seen.alloc);
+        let mut list = Items::new(self.seen.alloc);
         for arm in arms {
             let consts = self.case_constants(arm.consts.as_slice(), boolean, &mut seen)?;
             let body = self.statement(&arm.body)?;
@@ -211,19 +196,94 @@ impl<'t> Checker<'t> {
         boolean: bool,
         seen: &mut IndexMap<i32, ()>,
     ) -> Result<Items<i32>, Fault> {
-        let mut values = Items::new(self.alloc);
+        let mut values = Items::new(self.seen.alloc);
         for constant in constants {
-            let value = self.constant(constant)?;
-            if value.boolean != boolean {
-                return Err(Rule::Type.broken(constant.span.start));
-            }
-            if seen.contains_key(&value.value) {
-                return Err(Rule::CaseConstant.broken(constant.span.start));
-            }
-            see(seen, value.value).map_err(Fault::Memory)?;
-            values.push(value.value).map_err(Fault::Memory)?;
+            let value = self
+                .seen
+                .case_constant(&mut self.made, constant, boolean, seen)?;
+            see(seen, value).map_err(Fault::Memory)?;
+            values.push(value).map_err(Fault::Memory)?;
         }
         Ok(values)
+    }
+}
+
+impl<'t> Seen<'t> {
+    /// A constant of a `case`, which has the selector's host and does not stand in `seen`.
+    fn case_constant(
+        &self,
+        made: &mut Made,
+        constant: &Constant,
+        boolean: bool,
+        seen: &IndexMap<i32, ()>,
+    ) -> Result<i32, Fault>
+        ensures value { Gives (λ z. z) (spec.case_constant (sight self.now) (λ z. is_some (get int_eq seen.now z)) boolean constant.now) result }
+    {
+        let value = self.constant(made, constant)?;
+        if value.boolean != boolean {
+            return Err(Rule::Type.broken(constant.span.start));
+        }
+        if seen.contains_key(&value.value) {
+            return Err(Rule::CaseConstant.broken(constant.span.start));
+        }
+        Ok(value.value)
+    }
+
+    /// The target and the value of an assignment, and the function whose result is the target, if it is one.
+    #[tactic(auto, unfolding(crate::specs::Statement::assigned))]
+    fn assignment(
+        &self,
+        made: &mut Made,
+        to: &pas_tree::Access,
+        value: &pas_tree::Expr,
+    ) -> Result<(Body, Option<usize>), Fault>
+        ensures value { Gives (λ b. b.1) (spec.assigned (sight self.now) to.now.name (map (found (sight self.now)) to.now.subscripts) (found (sight self.now) value.now)) result }
+    {
+        let meaning = self.meaning(made, to.name)?;
+        let (variable, function) = self.target(meaning, to.name.start)?;
+        let target = self.reached(made, variable, to.name, to.subscripts.as_slice())?;
+        self.threaten(made, target.whole, to.name.start)?;
+        let body = self.assigned(made, target, value)?;
+        Ok((body, function))
+    }
+
+    /// What is assigned to: a variable, or inside a function's block its result.
+    fn target(&self, meaning: Meaning, at: u32) -> Result<(Variable, Option<usize>), Fault>
+        ensures value { Gives (λ r. r) (spec.target_by (sight self.now) meaning at) result }
+    {
+        match meaning {
+            Meaning::Variable(variable) => Ok((variable, None)),
+            Meaning::Routine { head, .. } => match self.result_of(head) {
+                Some(own) => Ok((own, Some(head))),
+                None => Err(Rule::Kind.broken(at)),
+            },
+            _ => Err(Rule::Kind.broken(at)),
+        }
+    }
+
+    /// The assignment of a value that fits its target.
+    #[tactic(auto, unfolding(crate::specs::Statement::value_assigned))]
+    fn assigned(
+        &self,
+        made: &mut Made,
+        target: Reached,
+        value: &pas_tree::Expr,
+    ) -> Result<Body, Fault>
+        ensures value { Gives (λ b. tt) (spec.value_assigned (sight self.now) target.of_type (found (sight self.now) value.now)) result }
+    {
+        match self.expr(made, value)? {
+            Typed::Scalar { expr, boolean } if self.is_host(target.of_type, boolean) => {
+                Ok(Body::Assign {
+                    to: target.access,
+                    value: expr,
+                })
+            }
+            Typed::Array { access, of_type } if of_type == target.of_type => Ok(Body::Copy {
+                to: target.access,
+                from: access,
+            }),
+            _ => Err(Rule::Type.broken(self.first(value))),
+        }
     }
 }
 

@@ -1,10 +1,16 @@
 //! Procedure calls, `read` and `write` among them (ISO 7185, 6.8.2.3 and 6.9).
 
-use crate::checker::Checker;
+ghost use Rattle.std.specs.Prelude.{◌≡◌, false, map};
+ghost use Rattle.pas_check.specs.Expr.{given};
+ghost use Rattle.pas_check.specs.Outcome.{Gives};
+ghost use Rattle.pas_check.specs.Sight.{sight};
+ghost use Rattle.pas_check.specs.Statement as spec;
+
 use crate::fault::{Fault, Rule};
 use crate::meaning::{Meaning, Transput};
+use crate::seen::{Made, Seen};
 use pas_program::{Access, Body, Expr, WriteItem, WriteValue};
-use pas_tree::{Actual, ActualValue, span_of};
+use pas_tree::{Actual, ActualValue};
 use px_base::Span;
 use sqlite_items::Items;
 use std::alloc::{AllocError, Global};
@@ -23,25 +29,29 @@ fn unquoted(alloc: Global, quoted: &[u8]) -> Result<Items<u8>, AllocError> {
     Ok(bytes)
 }
 
-impl<'t> Checker<'t> {
+impl<'t> Seen<'t> {
     /// A procedure with its actuals.
-    pub fn call(&mut self, name: Span, actuals: &[Actual]) -> Result<Body, Fault> {
-        match self.meaning(name)? {
+    pub fn call(&self, made: &mut Made, name: Span, actuals: &[Actual]) -> Result<Body, Fault> {
+        match self.meaning(made, name)? {
             Meaning::Routine {
                 head,
                 function: false,
-            } => self.procedure_call(head, name, actuals),
-            Meaning::Transput(transput) => self.transput(transput, name, actuals),
+            } => self.procedure_call(made, head, name, actuals),
+            Meaning::Transput(transput) => self.transput(made, transput, name, actuals),
             _ => Err(Rule::Kind.broken(name.start)),
         }
     }
 
+    #[tactic(auto, unfolding(crate::specs::Statement::procedure_call))]
     fn procedure_call(
-        &mut self,
+        &self,
+        made: &mut Made,
         head: usize,
         name: Span,
         actuals: &[Actual],
-    ) -> Result<Body, Fault> {
+    ) -> Result<Body, Fault>
+        ensures value { Gives (λ b. tt) (spec.procedure_call (sight self.now) head name.start (map (given (sight self.now)) actuals.now)) result }
+    {
         let Some(callee) = self.callee(head) else {
             return Err(Rule::Kind.broken(name.start));
         };
@@ -50,13 +60,14 @@ impl<'t> Checker<'t> {
         }
         Ok(Body::Call {
             routine: callee.routine,
-            actuals: self.actuals(head, actuals)?,
+            actuals: self.actuals(made, head, actuals)?,
             at: name.start,
         })
     }
 
     fn transput(
-        &mut self,
+        &self,
+        made: &mut Made,
         transput: Transput,
         name: Span,
         actuals: &[Actual],
@@ -66,34 +77,43 @@ impl<'t> Checker<'t> {
             return Err(Rule::ActualCount.broken(name.start));
         }
         match transput {
-            Transput::Read | Transput::Readln => self.read(actuals, line),
-            Transput::Write | Transput::Writeln => self.write(actuals, line),
+            Transput::Read | Transput::Readln => self.read(made, actuals, line),
+            Transput::Write | Transput::Writeln => self.write(made, actuals, line),
         }
     }
 
     /// Variables of the host `integer`.
-    fn read(&mut self, actuals: &[Actual], line: bool) -> Result<Body, Fault> {
+    fn read(&self, made: &mut Made, actuals: &[Actual], line: bool) -> Result<Body, Fault>
+        ensures value { Gives (λ b. tt) (spec.all_read (sight self.now) (map (given (sight self.now)) actuals.now)) result }
+    {
         let mut to = Items::new(self.alloc);
         for actual in actuals {
-            let value = self.value_actual(actual)?;
-            let first = span_of(value).start;
-            let reached = self.variable_of(value)?;
-            if self.types.host(reached.of_type) != Some(false) {
-                return Err(Rule::Type.broken(first));
-            }
-            self.threaten(reached.whole, first)?;
-            self.no_width(actual)?;
-            to.push(reached.access).map_err(Fault::Memory)?;
+            let access = self.read_into(made, actual)?;
+            to.push(access).map_err(Fault::Memory)?;
         }
         Ok(Body::Read { to, line })
     }
 
-    fn write(&mut self, actuals: &[Actual], line: bool) -> Result<Body, Fault> {
+    #[tactic(auto, unfolding(crate::specs::Statement::read_into))]
+    fn read_into(&self, made: &mut Made, actual: &Actual) -> Result<Access, Fault>
+        ensures value { Gives (λ a. tt) (spec.read_into (sight self.now) (given (sight self.now) actual.now)) result }
+    {
+        let value = self.value_actual(actual)?;
+        let reached = self.variable_of(made, value)?;
+        if !self.is_host(reached.of_type, false) {
+            return Err(Rule::Type.broken(self.first(value)));
+        }
+        self.threaten(made, reached.whole, self.first(value))?;
+        self.no_width(actual)?;
+        Ok(reached.access)
+    }
+
+    fn write(&self, made: &mut Made, actuals: &[Actual], line: bool) -> Result<Body, Fault> {
         let mut items = Items::new(self.alloc);
         for actual in actuals {
-            let value = self.written(&actual.value)?;
+            let value = self.written(made, &actual.value)?;
             let width = match &actual.width {
-                Some(width) => Some(self.of_host(width, false)?),
+                Some(width) => Some(self.of_host(made, width, false)?),
                 None => None,
             };
             items
@@ -103,9 +123,9 @@ impl<'t> Checker<'t> {
         Ok(Body::Write { items, line })
     }
 
-    fn written(&mut self, value: &ActualValue) -> Result<WriteValue, Fault> {
+    fn written(&self, made: &mut Made, value: &ActualValue) -> Result<WriteValue, Fault> {
         match value {
-            ActualValue::Value(value) => Ok(WriteValue::Value(self.scalar(value)?.0)),
+            ActualValue::Value(value) => Ok(WriteValue::Value(self.scalar(made, value)?.0)),
             ActualValue::Text(span) => Ok(WriteValue::Text {
                 bytes: unquoted(self.alloc, self.spelling(*span)).map_err(Fault::Memory)?,
                 at: span.start,

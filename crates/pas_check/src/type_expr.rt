@@ -1,8 +1,14 @@
 //! Types as they are written (ISO 7185, 6.4).
 
+ghost use Rattle.std.specs.Prelude.{◌≡◌};
+ghost use Rattle.pas_check.specs.Outcome.{Gives};
+ghost use Rattle.pas_check.specs.Sight.{sight};
+ghost use Rattle.pas_check.specs.TypeExpr as spec;
+
 use crate::checker::Checker;
 use crate::fault::{Fault, Rule};
 use crate::meaning::Meaning;
+use crate::seen::{Made, Seen};
 use pas_program::TypeDef;
 use pas_tree::{Constant, TypeExpr};
 use px_base::Span;
@@ -17,20 +23,25 @@ fn first_of(of_type: &TypeExpr) -> u32 {
     }
 }
 
-impl<'t> Checker<'t> {
+impl<'t> Seen<'t> {
     /// The type that a name stands for.
-    pub fn named_type(&mut self, name: Span) -> Result<u32, Fault> {
-        match self.meaning(name)? {
+    #[tactic(auto, unfolding(crate::specs::TypeExpr::named_type))]
+    pub fn named_type(&self, made: &mut Made, name: Span) -> Result<u32, Fault>
+        ensures value { Gives (λ t. t) (spec.named_type (sight self.now) name) result }
+    {
+        match self.meaning(made, name)? {
             Meaning::Type(number) => Ok(number),
             _ => Err(Rule::Kind.broken(name.start)),
         }
     }
+}
 
+impl<'t> Checker<'t> {
     /// The type that is denoted. Each subrange and each array is a new one.
     #[cycle(type_expr)]
     pub fn type_expr(&mut self, of_type: &TypeExpr) -> Result<u32, Fault> {
         match of_type {
-            TypeExpr::Name { name } => self.named_type(*name),
+            TypeExpr::Name { name } => self.seen.named_type(&mut self.made, *name),
             TypeExpr::Range { lo, hi, .. } => self.subrange(lo, hi),
             TypeExpr::Array {
                 indexes,
@@ -47,10 +58,10 @@ impl<'t> Checker<'t> {
     /// The index types of an array, each a scalar.
     #[cycle(type_expr)]
     fn index_types(&mut self, indexes: &[TypeExpr]) -> Result<Vec<u32>, Fault> {
-        let mut numbers = Vec::new(self.alloc);
+        let mut numbers = Vec::new(self.seen.alloc);
         for index in indexes {
             let number = self.type_expr(index)?;
-            if self.types.host(number).is_none() {
+            if self.seen.types.host(number).is_none() {
                 return Err(Rule::Type.broken(first_of(index)));
             }
             push(&mut numbers, number).map_err(Fault::Memory)?;
@@ -66,7 +77,7 @@ impl<'t> Checker<'t> {
                 index: *index,
                 element: number,
             };
-            match self.types.add(of_type).map_err(Fault::Memory)? {
+            match self.seen.types.add(of_type).map_err(Fault::Memory)? {
                 Some(array) => number = array,
                 None => return Err(Rule::Elements.broken(at)),
             }
@@ -75,8 +86,8 @@ impl<'t> Checker<'t> {
     }
 
     fn subrange(&mut self, lo: &Constant, hi: &Constant) -> Result<u32, Fault> {
-        let low = self.constant(lo)?;
-        let high = self.constant(hi)?;
+        let low = self.seen.constant(&mut self.made, lo)?;
+        let high = self.seen.constant(&mut self.made, hi)?;
         if low.boolean != high.boolean {
             return Err(Rule::Type.broken(hi.span.start));
         }
@@ -85,7 +96,8 @@ impl<'t> Checker<'t> {
             lo: low.value,
             hi: high.value,
         };
-        self.types
+        self.seen
+            .types
             .add(of_type)
             .map_err(Fault::Memory)?
             .ok_or(Rule::Range.broken(lo.span.start))

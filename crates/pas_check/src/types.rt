@@ -1,7 +1,11 @@
 //! The types of a program.
 
+ghost use Rattle.std.specs.Prelude.{◌≡◌, slice_get};
+ghost use Rattle.pas_check.specs.Sight.{host_of, parts_of};
+
 use pas_program::TypeDef;
 use pas_valid::TypeList;
+use sqlite_items::at;
 use std::alloc::{AllocError, Global};
 
 /// The types that were made so far.
@@ -46,16 +50,20 @@ impl Types {
     }
 
     /// The host of a scalar type: whether it is `Boolean`.
-    pub fn host(&self, t: u32) -> Option<bool> {
-        match self.list.list.get(t as usize) {
+    pub fn host(&self, t: u32) -> Option<bool>
+        ensures { result ≡ host_of (slice_get self.now.list.list t) }
+    {
+        match at(self.list.list.as_slice(), t as usize) {
             Some(TypeDef::Scalar { boolean, .. }) => Some(*boolean),
             _ => None,
         }
     }
 
     /// The index and the element type of an array type.
-    pub fn parts(&self, t: u32) -> Option<(u32, u32)> {
-        match self.list.list.get(t as usize) {
+    pub fn parts(&self, t: u32) -> Option<(u32, u32)>
+        ensures { result ≡ parts_of (slice_get self.now.list.list t) }
+    {
+        match at(self.list.list.as_slice(), t as usize) {
             Some(TypeDef::Array { index, element }) => Some((*index, *element)),
             _ => None,
         }

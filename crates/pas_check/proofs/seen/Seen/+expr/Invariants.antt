@@ -1,0 +1,13 @@
+use Rattle.std.proofs.Common.{◌≡◌, map, drop}
+use Rattle.pas_check.specs.Expr.{all_passed, formals_at, found, given, led}
+use Rattle.pas_check.specs.Sight.{sight}
+use Rattle.pas_check.proofs.seen.Seen.+expr.Given as goal
+
+abbrev pub invariant-reached-loop-subscript : goal.invariant-reached-loop-subscript
+invariant-reached-loop-subscript l =
+    led (sight l.self) (map (found (sight l.self)) l.subscripts) l.variable.of_type ≡ led (sight l.self) (map (found (sight l.self)) (drop l.subscript-index l.subscripts)) l.of_type
+
+abbrev pub invariant-actuals-loop-k : goal.invariant-actuals-loop-k
+invariant-actuals-loop-k l =
+    all_passed (sight l.self) (formals_at (sight l.self) l.head) (map (given (sight l.self)) l.actuals)
+    ≡ all_passed (sight l.self) (drop l.k (formals_at (sight l.self) l.head)) (map (given (sight l.self)) (drop l.k l.actuals))

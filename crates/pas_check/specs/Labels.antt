@@ -1,0 +1,95 @@
+-- Labels, where statements stand, and where a `goto` may lead (ISO 7185, 6.1.6, 6.8.1 and 6.8.2.4).
+use Rattle.std.specs.Prelude.{◌≡◌, ℕ, Bool, true, false, ◌&&◌, ◌||◌, not, List, [], ◌∷◌, ◌++◌, nat_eq, nat_le, is_some, Option, Some, None, Ok, Err}
+use Rattle.std.specs.HashMap.{HashMap}
+use Rattle.std.specs.declared.hash.BuildHasherDefault.{BuildHasherDefault}
+use Rattle.std.specs.declared.hash.FoldHasher.{FoldHasher}
+use Rattle.indexmap.specs.IndexMap.{get}
+use Rattle.pas_program.specs.Tables.{holds_of}
+use Rattle.pas_tree.specs.declared.block.Label.{Label}
+use Rattle.pas_check.specs.declared.fault.Fault.TheVariants.{Broken}
+use Rattle.pas_check.specs.declared.fault.Rule.TheVariants as rule
+use Rattle.pas_check.specs.declared.label.LabelDecl.{LabelDecl}
+use Rattle.pas_check.specs.declared.label.Placement.{Placement}
+use Rattle.pas_check.specs.declared.scope.Scope.{Scope}
+use Rattle.pas_check.specs.Outcome.{Outcome, ◌>>=◌, unless}
+use Rattle.pas_check.specs.Rules.{is_label_too_great, is_misplaced}
+
+-- ---- by paths
+
+-- A statement stands at a path: the numbers of the parts that lead to it from the statement part of its block.
+abbrev pub Path : Type 0
+Path = List ℕ
+
+-- the statement at q contains what stands at p, itself included
+pub record IsInside (p q : Path) : Type 0 where
+  pub inner : Path
+  pub leads : p ≡ q ++ inner
+
+-- A `goto` at p may reach the statement at q of the same block: the statement contains it; or the statement is a member of the
+-- sequence at s, which contains it. The outermost sequence of the block is at the empty path. A branch, a loop body and a
+-- case arm are no members of a sequence.
+pub data MayReach (is_sequence : Path → Bool) (p : Path) : Path → Type 0 where
+  containing : {q : Path} → IsInside p q → MayReach is_sequence p q
+  member : (s : Path) (k : ℕ) → is_sequence s ≡ true → IsInside p s → MayReach is_sequence p (s ++ k ∷ [])
+
+-- ---- by places, as the walk keeps it
+
+-- the labels of a block by their values
+abbrev pub Labels : Type 0
+Labels = HashMap ℕ LabelDecl (BuildHasherDefault FoldHasher)
+
+-- of a label's statement: the first and the last place of what may leave for it, and whether it is a member of the outermost
+-- sequence, for which inner routines may leave too
+abbrev pub may_reach : Bool → ℕ → Placement → Bool
+may_reach same_block at placed = placed.outermost || (same_block && (nat_le placed.from at && nat_le at placed.to))
+
+-- a label without a statement is at fault itself
+abbrev pub is_out_of_reach : Bool → ℕ → LabelDecl → Bool
+is_out_of_reach same_block at d = holds_of (λ (p : Placement). not (may_reach same_block at p)) d.placed
+
+-- ---- the tests
+
+-- a label of a label part
+abbrev pub declared_label : Labels → Label → Outcome (Unit {0})
+declared_label labels l =
+    unless (is_some (get nat_eq labels l.value)) rule.DeclaredOnce l.at.start
+    (unless (is_label_too_great l.value) rule.LabelValue l.at.start (Ok tt))
+
+abbrev pub place_by : Option Placement → Option ℕ
+place_by None = None
+place_by (Some p) = Some p.at
+
+abbrev pub place_of : Option LabelDecl → Option ℕ
+place_of None = None
+place_of (Some d) = place_by d.placed
+
+-- the place of the first statement that has a label of the block
+abbrev pub place_in : Labels → ℕ → Option ℕ
+place_in labels value = place_of (get nat_eq labels value)
+
+-- a label before a statement
+abbrev pub placed_label : Labels → Label → Outcome ℕ
+placed_label labels l = unless (is_misplaced (place_in labels l.value) l.at.start) rule.Label l.at.start (Ok l.value)
+
+-- the block of the statement is the innermost one around
+abbrev pub first_scope : List Scope → Option Scope
+first_scope [] = None
+first_scope (s ∷ around) = Some s
+
+abbrev pub placed_by : Option Scope → Label → Outcome ℕ
+placed_by None l = Err (Broken rule.Label l.at.start)
+placed_by (Some s) l = placed_label s.labels l
+
+-- the label of a `goto` at a place: the innermost block that declares it, and whether its statement may be reached
+abbrev pub left_by : Outcome ℕ → ℕ → Label → ℕ → Bool → Option LabelDecl → Outcome ℕ
+left_by around routine l at inner None = around
+left_by around routine l at inner (Some d) = unless (is_out_of_reach inner at d) rule.Goto l.at.start (Ok routine)
+
+abbrev pub left_for : List Scope → Label → ℕ → Bool → Outcome ℕ
+left_for [] l at inner = Err (Broken rule.Label l.at.start)
+left_for (s ∷ around) l at inner = left_by (left_for around l at false) s.routine l at inner (get nat_eq s.labels l.value)
+
+abbrev pub goto_allowed : List Scope → Label → ℕ → Outcome (Unit {0})
+goto_allowed scopes l at = do
+  routine ← left_for scopes l at true
+  Ok tt

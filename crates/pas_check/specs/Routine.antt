@@ -1,0 +1,22 @@
+-- The tests of a heading and of a block's end (ISO 7185, 6.6.1 and 6.6.2).
+use Rattle.std.specs.Prelude.{ℕ, Ok}
+use Rattle.pas_tree.specs.declared.block.RoutineBody.TheOpen.{Routine-F}
+use Rattle.pas_check.specs.declared.fault.Rule.TheVariants as rule
+use Rattle.pas_check.specs.declared.routine.Head.{Head}
+use Rattle.pas_check.specs.Outcome.{Outcome, unless}
+use Rattle.pas_check.specs.Rules.{is_never_assigned, is_too_deep, lacks_body, lacks_result_type, repeats_heading}
+
+-- a heading that declares its name, with so many routines around it
+abbrev pub heading_allowed : {A B C : Type 0} → Routine-F A B C → ℕ → Outcome (Unit {0})
+heading_allowed r around = unless (lacks_result_type r.function r.result) rule.Kind r.name.start (unless (is_too_deep around) rule.Nesting r.name.start (Ok tt))
+
+-- the heading of the body of a `forward` heading
+abbrev pub repeated_heading : {A B C : Type 0} → Routine-F A B C → Outcome (Unit {0})
+repeated_heading r = unless (repeats_heading r.formals r.result) rule.DeclaredOnce r.name.start (Ok tt)
+
+-- at the end of a function's block, and of the block around a heading
+abbrev pub result_assigned : Head → Outcome (Unit {0})
+result_assigned h = unless (is_never_assigned h.result h.assigned) rule.Result h.name.start (Ok tt)
+
+abbrev pub body_given : Head → Outcome (Unit {0})
+body_given h = unless (lacks_body h.has_body) rule.Body h.name.start (Ok tt)

@@ -1,0 +1,76 @@
+-- What a test sees where the walk stands.
+use Rattle.std.specs.Prelude.{ℕ, Bool, List, [], ◌∷◌, map, reverse, nat_eq, is_some, Option, Some, None, slice_get}
+use Rattle.px_base.specs.declared.place.Span.{Span}
+use Rattle.pas_program.specs.declared.type_def.TypeDef.{TypeDef}
+use Rattle.pas_program.specs.declared.type_def.TypeDef.TheVariants.{Scalar, Array}
+use Rattle.indexmap.specs.IndexMap.{get}
+use Rattle.pas_check.specs.declared.actual.Formal.{Formal}
+use Rattle.pas_check.specs.declared.meaning.Variable.{Variable}
+use Rattle.pas_check.specs.declared.routine.Head.{Head}
+use Rattle.pas_check.specs.declared.scope.Declaration.{Declaration}
+use Rattle.pas_check.specs.declared.scope.Scope.{Scope}
+use Rattle.pas_check.specs.declared.seen.Seen.{Seen}
+use Rattle.pas_check.specs.Names.{Names, denoted, name_at}
+
+-- a procedure or a function as its callers see it
+pub record Heading : Type 0 where
+  pub formals : List Formal
+  -- the variable for the result of a function
+  pub result : Option Variable
+  -- whether the walk is inside its block
+  pub inside : Bool
+
+pub record Sight : Type 0 where
+  pub text : List ℕ
+  -- what the blocks around declare, the innermost first
+  pub blocks : List Names
+  -- the types that were read, by their numbers
+  pub types : List TypeDef
+  pub headings : List Heading
+  -- the routine in whose block the walk stands
+  pub routine : ℕ
+  -- whether it stands in an assertion
+  pub asserting : Bool
+  -- the control variables of the `for` statements around
+  pub looping : ℕ → Bool
+
+abbrev pub heading_of : Head → Heading
+heading_of h = record { formals = h.formals.items; result = h.result; inside = h.inside }
+
+abbrev pub names_around : List Scope → List Names
+names_around scopes = map (λ (s : Scope). s.names) (reverse scopes)
+
+unfoldable pub sight : Seen → Sight
+sight c = record {
+  text = c.text.now;
+  blocks = names_around c.scopes.items;
+  types = c.types.list.list;
+  headings = map heading_of c.heads.items;
+  routine = c.routine;
+  asserting = c.asserting;
+  looping = λ v. is_some (get nat_eq c.looping v);
+}
+
+-- what the name at a span denotes
+abbrev pub denoted_at : Sight → Span → Option Declaration
+denoted_at v name = denoted (name_at v.text name) v.blocks
+
+abbrev pub innermost : List Names → Names
+innermost [] = []
+innermost (block ∷ around) = block
+
+-- the host of a scalar type: whether it is Boolean
+abbrev pub host_of : Option TypeDef → Option Bool
+host_of (Some (Scalar boolean lo hi)) = Some boolean
+host_of _ = None
+
+abbrev pub host_at : Sight → ℕ → Option Bool
+host_at v t = host_of (slice_get v.types t)
+
+-- the index and the element type of an array type
+abbrev pub parts_of : Option TypeDef → Option (ℕ × ℕ)
+parts_of (Some (Array index element)) = Some (index, element)
+parts_of _ = None
+
+abbrev pub parts_at : Sight → ℕ → Option (ℕ × ℕ)
+parts_at v t = parts_of (slice_get v.types t)

@@ -1,0 +1,193 @@
+//! What the tests see where the walk stands, and what is made on the way.
+
+ghost use Rattle.std.specs.Prelude.{◌≡◌, IfErr, IfOk, OnOk};
+ghost use Rattle.pas_check.specs.Expr.{claimed, meant};
+ghost use Rattle.pas_check.specs.Names as spec;
+ghost use Rattle.pas_check.specs.Outcome.{Gives, IsMemory};
+ghost use Rattle.pas_check.specs.Rules as rules;
+ghost use Rattle.pas_check.specs.Sight.{innermost, parts_at, sight};
+
+use crate::fault::{Fault, Rule};
+use crate::frame::Frame;
+use crate::meaning::{Meaning, Variable};
+use crate::names::{lower_case, spelling};
+use crate::routine::Head;
+use crate::scope::{Scope, denoted, innermost};
+use crate::types::Types;
+use indexmap::IndexMap;
+use pas_program::{Assert, Routine, VarDef, VarKind};
+use px_base::Span;
+use sqlite_items::Items;
+use std::alloc::{AllocError, Global};
+
+/// What a test may depend on.
+#[derive(Drop)]
+pub struct Seen<'t> {
+    pub alloc: Global,
+    pub text: &'t [u8],
+    /// The blocks around, the innermost last.
+    pub scopes: Vec<Scope>,
+    pub types: Types,
+    /// The procedures and functions by their headings.
+    pub heads: Vec<Head>,
+    /// The routine in whose block the walk is.
+    pub routine: u32,
+    /// Whether the walk is inside an assertion.
+    pub asserting: bool,
+    /// The control variables of the `for` statements around.
+    pub looping: IndexMap<u32, ()>,
+}
+
+/// What is made of the program so far.
+#[derive(Drop)]
+pub struct Made {
+    pub vars: Items<VarDef>,
+    /// The routines whose blocks have ended.
+    pub routines: Items<Routine>,
+    pub asserts: Items<Assert>,
+    pub frame: Frame,
+    /// The variables that a routine inside their own threatens.
+    pub threatened: IndexMap<u32, ()>,
+    /// The name that was looked up last, in lower case.
+    pub lower: Vec<u8>,
+}
+
+impl Made {
+    /// Spells the name that stands at a span of a text.
+    pub fn spell(&mut self, text: &[u8], span: Span) -> Result<(), Fault>
+        ensures name { OnOk result (self.new.lower.items ≡ spec.name_at text.now span) }
+        ensures kept { self.new ≡ record self.old { lower = self.new.lower } }
+        ensures memory { IfErr result IsMemory }
+    {
+        match lower_case(spelling(text, span), &mut self.lower) {
+            Ok(()) => Ok(()),
+            Err(error) => Err(Fault::Memory(error)),
+        }
+    }
+
+    /// A new variable of the routine at hand.
+    pub fn variable(&mut self, name: Span, kind: VarKind, of_type: u32) -> Result<Variable, Fault>
+        ensures of_type { IfOk result (λ x. x.of_type ≡ of_type) }
+        ensures memory { IfErr result IsMemory }
+    {
+        let routine = self.frame.routine;
+        let variable = self.add_variable(name, routine, kind, of_type)?;
+        match self.frame.take(kind, variable.number) {
+            Ok(()) => Ok(variable),
+            Err(error) => Err(Fault::Memory(error)),
+        }
+    }
+
+    /// A new variable of any routine.
+    pub fn add_variable(
+        &mut self,
+        name: Span,
+        routine: u32,
+        kind: VarKind,
+        of_type: u32,
+    ) -> Result<Variable, Fault>
+        ensures value { IfOk result (λ x. (x.routine ≡ routine) × (x.kind ≡ kind) × (x.of_type ≡ of_type)) }
+        ensures memory { IfErr result IsMemory }
+    {
+        let Ok(number) = u32::try_from(self.vars.len()) else {
+            return Err(Fault::Memory(AllocError));
+        };
+        let var = VarDef {
+            name,
+            routine,
+            kind,
+            of_type,
+            place: name.start,
+        };
+        match self.vars.push(var) {
+            Ok(()) => Ok(Variable {
+                number,
+                routine,
+                kind,
+                of_type,
+            }),
+            Err(error) => Err(Fault::Memory(error)),
+        }
+    }
+}
+
+impl<'t> Seen<'t> {
+    /// The bytes of a span.
+    pub fn spelling(&self, span: Span) -> &'t [u8]
+        ensures { result.now ≡ spec.spelling self.now.text.now span }
+    {
+        spelling(self.text, span)
+    }
+
+    /// Whether the walk is inside an assertion.
+    #[tactic(auto, unfolding(crate::specs::Sight::sight))]
+    pub fn is_asserting(&self) -> bool
+        ensures { result ≡ (sight self.now).asserting }
+    {
+        self.asserting
+    }
+
+    /// The index and the element type of an array type.
+    #[tactic(auto, unfolding(crate::specs::Sight::sight))]
+    pub fn parts(&self, t: u32) -> Option<(u32, u32)>
+        ensures { result ≡ parts_at (sight self.now) t }
+    {
+        self.types.parts(t)
+    }
+
+    /// What a name stands for where it is used: its first declaration in the innermost block that declares it.
+    #[tactic(auto, unfolding(crate::specs::Expr::meant, crate::specs::Expr::meant_by, crate::specs::Sight::sight))]
+    pub fn meaning(&self, made: &mut Made, span: Span) -> Result<Meaning, Fault>
+        ensures value { Gives (λ m. m) (meant (sight self.now) span) result }
+        ensures kept { made.new ≡ record made.old { lower = made.new.lower } }
+    {
+        made.spell(self.text, span)?;
+        match denoted(self.scopes.as_slice(), made.lower.as_slice()) {
+            None => Err(Rule::Known.broken(span.start)),
+            Some(declaration) => match declaration.meaning {
+                None => Err(Rule::DeclaredBefore.broken(span.start)),
+                Some(meaning) => Ok(meaning),
+            },
+        }
+    }
+
+    /// Tests that the innermost block declares the name here and not before.
+    #[tactic(auto, unfolding(crate::specs::Expr::claimed, crate::specs::Sight::sight))]
+    pub fn claim(&self, made: &mut Made, span: Span) -> Result<(), Fault>
+        ensures value { Gives (λ u. u) (claimed (sight self.now) span) result }
+        ensures kept { made.new ≡ record made.old { lower = made.new.lower } }
+    {
+        made.spell(self.text, span)?;
+        if self.is_declared_before(made.lower.as_slice(), span.start) {
+            Err(Rule::DeclaredOnce.broken(span.start))
+        } else {
+            Ok(())
+        }
+    }
+
+    /// Whether the innermost block declares a name at another place than this one.
+    #[tactic(auto, unfolding(crate::specs::Sight::sight))]
+    fn is_declared_before(&self, name: &[u8], at: u32) -> bool
+        ensures { result ≡ rules.is_declared_before name.now at (innermost (sight self.now).blocks) }
+    {
+        match innermost(self.scopes.as_slice()) {
+            Some(scope) => match scope.names.get(name) {
+                Some(declaration) => declaration.at != at,
+                None => false,
+            },
+            None => false,
+        }
+    }
+
+    /// Gives the name its meaning in the innermost block.
+    pub fn define(&mut self, made: &mut Made, span: Span, meaning: Meaning) -> Result<(), Fault> {
+        made.spell(self.text, span)?;
+        match self.scopes.last_mut() {
+            Some(scope) => scope
+                .names
+                .end(self.alloc, made.lower.as_slice(), span.start, meaning)
+                .map_err(Fault::Memory),
+            None => Ok(()),
+        }
+    }
+}
