@@ -1,6 +1,6 @@
 -- The assertions of the points of a statement are those of its statements.
-use Rattle.std.proofs.Common.{◌≡◌, ℕ, ℤ, suc, zero, Bool, true, false, ◌&&◌, List, [], ◌∷◌, ◌++◌, map, refl, sym, ap, subst, ◌∙◌, Option, Some, None}
-use Rattle.std.proofs.lemmas.Bool.{and_parts, and_from, true≢false}
+use Rattle.std.proofs.Common.{◌≡◌, ℕ, ℤ, suc, zero, Bool, true, List, [], ◌∷◌, ◌++◌, map, refl, sym, ap, subst, ◌∙◌, Some, None}
+use Rattle.std.proofs.lemmas.Bool.{and_parts, and_from}
 use Rattle.std.proofs.lemmas.List.Folds.{list_all-append}
 use Rattle.std.proofs.lemmas.Option.{none-some}
 use Rattle.std.specs.List.{list_all, flat_map, slice_get}
@@ -19,7 +19,7 @@ use Rattle.control_points.specs.declared.numbering.Mark.{Mark}
 use Rattle.control_points.specs.Called.{calls_of}
 use Rattle.control_points.specs.Calls.{Sites, access_calls, expr_calls, item_calls}
 use Rattle.control_points.proofs.Listed.{same_some}
-use Rattle.control_points.specs.Marks.{Marks, joined, second_or, mark, call_marks, read_marks, write_marks, body_marks_step, statement_marks_step, arm_marks, body_marks, statement_marks, statements_marks, part_marks, routine_marks, routines_marks}
+use Rattle.control_points.specs.Marks.{Marks, joined, call_marks, read_marks, write_marks, body_marks_step, statement_marks_step, arm_marks, body_marks, statement_marks, statements_marks, part_marks, routine_marks, routines_marks}
 
 pub asserts_pass : Rule → Mark → Bool
 asserts_pass q m = list_all q.assertion m.asserts

@@ -1,5 +1,5 @@
 -- The points of all routines: where each of them begins and ends.
-use Rattle.std.proofs.Common.{◌≡◌, ◌⊎◌, inl, inr, ℕ, zero, suc, ◌+◌, ◌-◌, ◌<◌, ◌≤◌, Bool, true, false, ◌&&◌, not, List, [], ◌∷◌, ◌++◌, map, length, length-append, append_assoc, get_or, refl, sym, ap, subst, ◌∙◌, Option, Some, None, nat_eq, arith}
+use Rattle.std.proofs.Common.{◌≡◌, inl, inr, ℕ, zero, suc, ◌+◌, ◌-◌, ◌<◌, ◌≤◌, Bool, true, false, not, List, [], ◌∷◌, ◌++◌, map, length, length-append, append_assoc, refl, sym, ap, subst, ◌∙◌, Option, Some, None, nat_eq, arith}
 use Rattle.std.proofs.lemmas.Bool.{and_parts, eqb-true, true≢false}
 use Rattle.std.proofs.lemmas.Option.{none-some, slice_get_within}
 use Rattle.std.specs.List.{list_all, slice_get, slice_index}
@@ -13,15 +13,14 @@ use Rattle.pas_program.specs.declared.statement.Statement.{Statement}
 use Rattle.pas_program.specs.Scopes.{is_begin, is_outermost}
 use Rattle.control_points.specs.declared.numbering.Mark.{Mark}
 use Rattle.control_points.specs.declared.point.Point.{Point}
-use Rattle.control_points.specs.declared.point.PointKind.{PointKind}
 use Rattle.control_points.specs.declared.point.PointKind.TheVariants as kind
-use Rattle.control_points.specs.Extents.{part_points, routine_points, statements_extent}
+use Rattle.control_points.specs.Extents.{part_points, routine_points}
 use Rattle.control_points.specs.Fits.{routine_at, kind_at}
 use Rattle.control_points.specs.Leading.{is_exit}
 use Rattle.control_points.specs.Marks.{Marks, mark, part_marks, routine_marks, routines_marks, starts, statements_marks}
 use Rattle.control_points.specs.Wired.{AreBlocks, IsBlock, is_exit_at, points_of}
 use Rattle.control_points.proofs.Listed.{get_either, get_more, same_some}
-use Rattle.control_points.proofs.Inside.{AreInside, inside, statements_inside}
+use Rattle.control_points.proofs.Inside.{inside, statements_inside}
 
 -- ---- elements
 

@@ -5,12 +5,11 @@ use Rattle.px_base.specs.declared.operator.BinOp.{BinOp}
 use Rattle.px_base.specs.declared.operator.UnOp.{UnOp}
 use Rattle.pas_program.specs.declared.expr.Access.{Access}
 use Rattle.pas_program.specs.declared.expr.Actual.{Actual}
-use Rattle.pas_program.specs.declared.expr.Actual.TheOpen.{Access-F, Actual-F, ExprForm-F, Expr-F}
+use Rattle.pas_program.specs.declared.expr.Actual.TheOpen.{Actual-F, ExprForm-F}
 use Rattle.pas_program.specs.declared.expr.Actual.TheFolds.{para-roll-Access, para-roll-Actual, para-roll-Expr, para-roll-ExprForm}
-use Rattle.pas_program.specs.declared.expr.Actual.TheViews.{out-Access, out-Expr, roll-Access, roll-Actual, roll-Expr, roll-ExprForm, roll-out-Access, roll-out-Expr}
+use Rattle.pas_program.specs.declared.expr.Actual.TheViews.{out-Access, out-Expr, roll-out-Access, roll-out-Expr}
 use Rattle.pas_program.specs.declared.expr.Actual.TheVariants as actual
 use Rattle.pas_program.specs.declared.expr.Expr.{Expr}
-use Rattle.pas_program.specs.declared.expr.ExprForm.{ExprForm}
 use Rattle.pas_program.specs.declared.expr.ExprForm.TheVariants as form
 use Rattle.control_points.specs.declared.calls.CallSite as walk
 use Rattle.control_points.specs.Called.{site_of, sites_of}

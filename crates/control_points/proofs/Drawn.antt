@@ -1,5 +1,5 @@
 -- Edges and checks that are added to a graph.
-use Rattle.std.proofs.Common.{◌≡◌, ◌⊎◌, inl, inr, ℕ, zero, suc, ◌+◌, ◌-◌, ◌<◌, ◌≤◌, Bool, true, false, List, [], ◌∷◌, ◌++◌, length, refl, sym, ap, subst, ◌∙◌, Option, Some, None, nat_eq, nat_lt, append_assoc, arith, rules, tests}
+use Rattle.std.proofs.Common.{◌≡◌, ◌⊎◌, inl, inr, ℕ, zero, suc, ◌-◌, ◌<◌, ◌≤◌, Bool, true, false, List, [], ◌∷◌, ◌++◌, length, refl, sym, ap, subst, ◌∙◌, Option, Some, None, nat_eq, nat_lt, append_assoc, arith, rules, tests}
 use Rattle.std.proofs.lemmas.Bool.{and_parts, ltb-true, true≢false}
 use Rattle.std.proofs.lemmas.Option.{none-some, slice_get_within}
 use Rattle.std.specs.List.{slice_get, slice_index}
@@ -16,16 +16,15 @@ use Rattle.control_points.specs.declared.edge.Edge.{Edge}
 use Rattle.control_points.specs.declared.labels.Labels.{Labels}
 use Rattle.control_points.specs.declared.numbering.Mark.{Mark}
 use Rattle.control_points.specs.declared.point.Point.{Point}
-use Rattle.control_points.specs.declared.point.PointKind.{PointKind}
 use Rattle.control_points.specs.declared.point.PointKind.TheVariants as kind
 use Rattle.control_points.specs.Acts.{each_act}
 use Rattle.control_points.specs.Checking.{Faults}
-use Rattle.control_points.specs.Fits.{routine_at, kind_at, act_at, callee_of, is_return_of, CallsReturn, ChecksFit}
-use Rattle.control_points.specs.Judging.{checks_at, check_of}
-use Rattle.control_points.specs.Leading.{goes_on_after, is_exit, is_return}
+use Rattle.control_points.specs.Fits.{routine_at, kind_at, act_at, callee_of, is_return_of, CallsReturn}
+use Rattle.control_points.specs.Judging.{checks_at}
+use Rattle.control_points.specs.Leading.{goes_on_after, is_return}
 use Rattle.control_points.specs.Scenes.{IsPlaced}
 use Rattle.control_points.specs.Wired.{ActFits, EdgeFits, IsWired, IsJudged, IsGraph, IsBlock, is_exit_at, points_of}
-use Rattle.control_points.proofs.Listed.{get_more, get_either, get_last, found_of, same_some}
+use Rattle.control_points.proofs.Listed.{get_more, get_either, found_of, same_some}
 
 -- ---- points
 

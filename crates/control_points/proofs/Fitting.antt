@@ -1,9 +1,8 @@
 -- The calls in what fits fit.
-use Rattle.std.proofs.Common.{◌≡◌, ◌⊎◌, inl, inr, ℕ, Bool, true, false, ◌&&◌, List, [], ◌∷◌, ◌++◌, map, length, refl, sym, ap, subst, ◌∙◌, Option, Some, None}
+use Rattle.std.proofs.Common.{◌≡◌, inl, inr, ℕ, Bool, true, ◌&&◌, List, [], ◌∷◌, ◌++◌, map, sym, ap, subst, ◌∙◌, Option, Some, None}
 use Rattle.std.proofs.lemmas.Bool.{and_parts, and_from, true≢false}
 use Rattle.std.proofs.lemmas.Option.{none-some}
-use Rattle.std.specs.List.{list_all, slice_get}
-use Rattle.std.specs.Option.{option_map}
+use Rattle.std.specs.List.{slice_get}
 use Rattle.pas_program.proofs.Weaker.{With, to_actual, to_form, to_access, to_expr}
 use Rattle.pas_program.specs.declared.expr.Access.{Access}
 use Rattle.pas_program.specs.declared.expr.Actual.{Actual}
@@ -18,11 +17,11 @@ use Rattle.pas_program.specs.declared.variable.VarDef.{VarDef}
 use Rattle.pas_program.specs.Each.{Rule, all_true, each_access, each_actual, each_expr, each_form}
 use Rattle.pas_program.specs.Tables.{Tables, Head, holds_of}
 use Rattle.pas_program.specs.Types.{has_host}
-use Rattle.pas_program.specs.Typed.{Hosted, Reached, Passed, scalar, whole, by_var, hosted, hosted_form, reached, passed, hosted_if, element_of, subscripted, access_from, is_passed_to, are_passed_to, function_fits, procedure_fits, actual_type_step, form_type_step, access_type_step, expr_type_step}
+use Rattle.pas_program.specs.Typed.{Hosted, Reached, Passed, scalar, whole, by_var, hosted, hosted_form, reached, passed, element_of, subscripted, access_from, is_passed_to, are_passed_to, function_fits, procedure_fits, actual_type_step, form_type_step, access_type_step, expr_type_step}
 use Rattle.control_points.specs.Acts.{callee_fits, callee_passes}
-use Rattle.control_points.specs.Calls.{CallSite, Sites, joined, actual_step, form_step, access_step, expr_step, expr_calls, form_calls, access_calls, actual_calls, actuals_calls, exprs_calls}
+use Rattle.control_points.specs.Calls.{CallSite, Sites, actual_step, form_step, access_step, expr_step, expr_calls, form_calls, access_calls, actual_calls, actuals_calls, exprs_calls}
 use Rattle.control_points.proofs.CallsOf.{call_parts, in_turn_beside, site}
-use Rattle.control_points.proofs.Listed.{get_either, get_more, same_some}
+use Rattle.control_points.proofs.Listed.{get_either, get_more}
 
 -- ---- what holds of each call
 

@@ -1,5 +1,5 @@
 -- The points of a statement: all are of its routine, none is an exit, and there are as many as its extent says.
-use Rattle.std.proofs.Common.{◌≡◌, ℕ, suc, ◌+◌, Bool, true, ◌&&◌, not, List, [], ◌∷◌, ◌++◌, map, length, length-append, refl, sym, ap, subst, ◌∙◌, Option, Some, None, nat_eq, arith, rules, tests}
+use Rattle.std.proofs.Common.{◌≡◌, ℕ, suc, ◌+◌, Bool, true, ◌&&◌, not, List, [], ◌∷◌, ◌++◌, map, length, length-append, refl, sym, ap, subst, ◌∙◌, Some, None, nat_eq, arith, rules, tests}
 use Rattle.std.proofs.lemmas.Bool.{and_from}
 use Rattle.std.proofs.lemmas.List.Folds.{list_all-append}
 use Rattle.std.specs.List.{list_all, flat_map}
@@ -14,13 +14,12 @@ use Rattle.pas_program.specs.declared.statement.Body.TheViews.{roll-Arm, roll-Bo
 use Rattle.pas_program.specs.declared.statement.Statement.{Statement}
 use Rattle.pas_program.specs.declared.statement.WriteItem.{WriteItem}
 use Rattle.control_points.specs.declared.numbering.Mark.{Mark}
-use Rattle.control_points.specs.declared.point.PointKind.{PointKind}
 use Rattle.control_points.specs.declared.point.PointKind.TheVariants as kind
 use Rattle.control_points.specs.Called.{calls_of}
 use Rattle.control_points.specs.Calls.{Sites, access_calls, expr_calls, item_calls}
-use Rattle.control_points.specs.Extents.{Extent, total, all_of, extent_of, read_points, write_points, body_extent_step, statement_extent_step, arm_extent, body_extent, statement_extent, statements_extent}
+use Rattle.control_points.specs.Extents.{Extent, total, all_of, read_points, write_points, body_extent_step, statement_extent_step, arm_extent, body_extent, statement_extent, statements_extent}
 use Rattle.control_points.specs.Leading.{is_exit}
-use Rattle.control_points.specs.Marks.{Marks, joined, second_or, place_of_written, mark, call_marks, read_marks, write_marks, body_marks_step, statement_marks_step, arm_marks, body_marks, statement_marks, statements_marks}
+use Rattle.control_points.specs.Marks.{Marks, joined, place_of_written, mark, call_marks, read_marks, write_marks, body_marks_step, statement_marks_step, arm_marks, body_marks, statement_marks, statements_marks}
 
 unfoldable pub inside : ℕ → Mark → Bool
 inside r m = nat_eq m.point.routine r && not (is_exit m.point.kind)

@@ -1,5 +1,5 @@
 -- The calls in a statement that fits fit, and so do the parameters of `read` and `write` and the arms of a `case`.
-use Rattle.std.proofs.Common.{◌≡◌, ℕ, ℤ, suc, zero, Bool, true, false, ◌&&◌, List, [], ◌∷◌, ◌++◌, map, length, refl, sym, ap, subst, ◌∙◌, Option, Some, None}
+use Rattle.std.proofs.Common.{◌≡◌, ℕ, ℤ, suc, zero, Bool, true, false, ◌&&◌, List, [], ◌∷◌, map, refl, sym, ap, subst, ◌∙◌, Option, Some, None}
 use Rattle.std.proofs.lemmas.Bool.{and_parts, and_from}
 use Rattle.std.proofs.lemmas.List.Folds.{list_all-append}
 use Rattle.std.proofs.lemmas.Option.{none-some}
@@ -25,8 +25,8 @@ use Rattle.pas_program.specs.Typed.{arm_types, body_type_step, body_types_fit, h
 use Rattle.pas_program.specs.Types.{in_host}
 use Rattle.control_points.specs.declared.edge.Act.TheVariants as act
 use Rattle.control_points.specs.Called.{calls_of, own_calls}
-use Rattle.control_points.specs.Calls.{CallSite, Sites, access_calls, expr_calls, item_calls}
-use Rattle.control_points.specs.Scenes.{ArmsFit, ReadsFit, SitesFit, WritesFit, call_act}
+use Rattle.control_points.specs.Calls.{Sites, access_calls, expr_calls, item_calls}
+use Rattle.control_points.specs.Scenes.{ArmsFit, ReadsFit, SitesFit, WritesFit}
 use Rattle.control_points.specs.Wired.{ActFits}
 use Rattle.control_points.proofs.Fitting.{EachSite, Passes, TypesFit, both_sites, no_site, rule_of_access, rule_of_actuals, rule_of_expr, type_of_access, type_of_actuals, type_of_expr}
 use Rattle.control_points.proofs.Listed.{same_some}

@@ -4,7 +4,7 @@ use Rattle.std.proofs.lemmas.List.{at_drop_more, at_drop_all}
 use Rattle.pas_program.specs.declared.expr.Actual.{Actual}
 use Rattle.pas_program.specs.declared.expr.Actual.TheViews.{out-Actual}
 use Rattle.pas_program.specs.Tables.{Tables}
-use Rattle.control_points.specs.Checking.{Faults, passing_checks, actual_checks}
+use Rattle.control_points.specs.Checking.{passing_checks, actual_checks}
 
 passing_none : (t : Tables) (xs : List Actual) → passing_checks t xs [] ≡ []
 passing_none t [] = refl

@@ -1,5 +1,5 @@
 -- What a flow keeps, of the points, edges and checks as the walks leave them.
-use Rattle.std.proofs.Common.{◌≡◌, ◌⊎◌, inl, inr, ℕ, zero, suc, ◌+◌, ◌-◌, ◌^◌, ◌<◌, ◌≤◌, Bool, true, false, List, [], ◌∷◌, ◌++◌, map, length, get_or, take, drop, length-append, nat_lt, refl, sym, ap, subst, ◌∙◌, Option, Some, None, arith}
+use Rattle.std.proofs.Common.{◌≡◌, inl, inr, ℕ, zero, suc, ◌+◌, ◌-◌, ◌^◌, ◌<◌, ◌≤◌, true, List, [], ◌∷◌, ◌++◌, map, length, get_or, take, drop, nat_lt, refl, sym, ap, subst, ◌∙◌, Option, Some, None, arith}
 use Rattle.std.proofs.lemmas.Bool.{cases_lt}
 use Rattle.std.proofs.lemmas.List.{at_drop_more, length-map}
 use Rattle.std.proofs.lemmas.Option.{none-some, slice_get_within}
@@ -13,13 +13,12 @@ use Rattle.control_points.specs.declared.edge.Edge.{Edge}
 use Rattle.control_points.specs.declared.labels.Labels.{Labels}
 use Rattle.control_points.specs.declared.numbering.Mark.{Mark}
 use Rattle.control_points.specs.declared.point.Point.{Point}
-use Rattle.control_points.specs.declared.point.PointKind.TheVariants as kind
 use Rattle.control_points.specs.Extents.{routine_points, routine_sizes, routines_sizes}
-use Rattle.control_points.specs.Fits.{AssertsFit, CallsReturn, EdgesFit, PointsFit, kind_at, routine_at}
+use Rattle.control_points.specs.Fits.{AssertsFit, EdgesFit, PointsFit, routine_at}
 use Rattle.control_points.specs.Leading.{EdgesLead, EntriesFit, ExitsReturn}
-use Rattle.control_points.specs.Marks.{Marks, mark, routine_marks, routines_marks, starts}
+use Rattle.control_points.specs.Marks.{Marks, routines_marks, starts}
 use Rattle.control_points.specs.Scenes.{LabelsLead}
-use Rattle.control_points.specs.Wired.{AreBlocks, Begins, EdgeFits, IsBlock, IsGraph, IsWired, points_of}
+use Rattle.control_points.specs.Wired.{AreBlocks, Begins, IsBlock, IsWired, points_of}
 use Rattle.control_points.proofs.Asserted.{asserts_at, routines_pass}
 use Rattle.control_points.proofs.Blocks.{block_size, blocks_of, get_mapped, marks_below, starts_grow}
 use Rattle.control_points.proofs.Drawn.{point_within}
@@ -64,18 +63,20 @@ module _ (program : Program) (marks : Marks) (is : marks ≡ routines_marks 0 pr
   outermost = program.in_scope.outermost
 
   pub points_fit : PointsFit program (points_of marks)
-  points_fit = record { routine = λ p q h.
-      let m = mapped_found (λ (x : Mark). x.point) marks p q h in
-      let low : m.0.point.routine < length program.routines = omega (arith, marks_below 0 program.routines outermost p m.0 (ap (λ xs. slice_get xs p) (sym is) ∙ m.1)) in
-      subst (λ n. n < length program.routines) (ap (λ (x : Point). x.routine) m.2) low }
+  points_fit = record {
+    routine = λ p q h.
+        let m = mapped_found (λ (x : Mark). x.point) marks p q h in
+        let low : m.0.point.routine < length program.routines = omega (arith, marks_below 0 program.routines outermost p m.0 (ap (λ xs. slice_get xs p) (sym is) ∙ m.1)) in
+        subst (λ n. n < length program.routines) (ap (λ (x : Point). x.routine) m.2) low;
+  }
 
   pub asserts_fit : AssertsFit program (points_of marks) (map (λ (m : Mark). m.asserts) marks)
   asserts_fit = record {
     lists = length-map marks (λ (m : Mark). m.asserts) ∙ sym (length-map marks (λ (m : Mark). m.point));
     numbers = λ p listed h.
-      let m = mapped_found (λ (x : Mark). x.asserts) marks p listed h in
-      ap (list_all (λ a. nat_lt a (length program.asserts))) (sym m.2)
-      ∙ asserts_at (numbers_in program) (routines_marks 0 program.routines) p m.0 (ap (λ xs. slice_get xs p) (sym is) ∙ m.1) (routines_pass (numbers_in program) 0 program.routines program.in_range.body);
+        let m = mapped_found (λ (x : Mark). x.asserts) marks p listed h in
+        ap (list_all (λ a. nat_lt a (length program.asserts))) (sym m.2)
+        ∙ asserts_at (numbers_in program) (routines_marks 0 program.routines) p m.0 (ap (λ xs. slice_get xs p) (sym is) ∙ m.1) (routines_pass (numbers_in program) 0 program.routines program.in_range.body);
   }
 
   pub blocks : AreBlocks (points_of marks) (length program.routines) (starts 0 0 program.routines)
@@ -107,12 +108,14 @@ module _ (program : Program) (marks : Marks) (is : marks ≡ routines_marks 0 pr
     size_at r d h = subst (λ es. slice_index es r + routine_points d + 1 ≡ slice_index es (suc r) - 1) (sym starts_are) (block_size program.routines outermost r d (slice_get_within program.routines r d h) h)
 
     pub labels_lead : (labels : List Labels) → length labels ≡ length program.routines → ((r : ℕ) (t : Labels) → slice_get labels r ≡ Some t → HasLabels entries marks r t) → LabelsLead (points_of marks) labels
-    labels_lead labels many each = record { leads = λ s t n p has found.
-        let first = slice_index entries s in
-        let next = slice_index entries (suc s) in
-        let b = blocks_in.block s (omega (arith, slice_get_within labels s t has, many)) in
-        let w = label_within first (slice_range marks first next) n p (sym (each s t has n) ∙ found) in
-        owned (points_of marks) s first (next - 1) b p w.0 (omega (arith, w.1, take_few (next - first) (drop first marks), b.order)) }
+    labels_lead labels many each = record {
+      leads = λ s t n p has found.
+          let first = slice_index entries s in
+          let next = slice_index entries (suc s) in
+          let b = blocks_in.block s (omega (arith, slice_get_within labels s t has, many)) in
+          let w = label_within first (slice_range marks first next) n p (sym (each s t has n) ∙ found) in
+          owned (points_of marks) s first (next - 1) b p w.0 (omega (arith, w.1, take_few (next - first) (drop first marks), b.order));
+    }
 
 module _ (program : Program) (points : List Point) (edges : List Edge) (wired : IsWired program points edges) where
   pub edges_fit : EdgesFit program points edges

@@ -1,9 +1,5 @@
 -- The graph as the second walk has drawn it up to a point.
-use Rattle.std.specs.Prelude.{◌≡◌, ℕ, suc, ◌+◌, ◌<◌, ◌≤◌, List, drop, true}
-use Rattle.pas_program.specs.declared.statement.Statement.{Statement}
-use Rattle.pas_program.specs.Checked.{numbers_in, scope_in, tables}
-use Rattle.pas_program.specs.Each.{each_statement}
-use Rattle.pas_program.specs.Typed.{statement_types_fit}
+use Rattle.std.specs.Prelude.{ℕ, ◌+◌, ◌<◌, ◌≤◌, List, drop}
 use Rattle.control_points.specs.declared.graph.Graph.{Graph}
 use Rattle.control_points.specs.declared.point.Point.{Point}
 use Rattle.control_points.specs.declared.wiring.Scene.{Scene}

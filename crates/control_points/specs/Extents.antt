@@ -1,5 +1,5 @@
 -- How many points a statement has, and how many each statement in it has, itself first, in the order of the text.
-use Rattle.std.specs.Prelude.{ℕ, suc, ◌+◌, List, [], ◌∷◌, ◌++◌, map, length, Option, Some, None}
+use Rattle.std.specs.Prelude.{ℕ, suc, ◌+◌, List, [], ◌∷◌, ◌++◌, map, length}
 use Rattle.pas_program.specs.declared.expr.Access.{Access}
 use Rattle.pas_program.specs.declared.routine.Routine.{Routine}
 use Rattle.pas_program.specs.declared.statement.Arm.{Arm}

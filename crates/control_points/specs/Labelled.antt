@@ -1,5 +1,5 @@
 -- The point before the first statement with a label (ISO 7185, 6.8.1).
-use Rattle.std.specs.Prelude.{ℕ, suc, Bool, true, false, List, [], ◌∷◌, Option, Some, None, if◌then◌else◌}
+use Rattle.std.specs.Prelude.{ℕ, suc, List, [], ◌∷◌, Option, Some, None, if◌then◌else◌}
 use Rattle.pas_program.specs.Scopes.{is_the}
 use Rattle.control_points.specs.declared.numbering.Mark.{Mark}
 

@@ -1,5 +1,5 @@
 -- What the second walk rests on, and what holds of the graph while it goes on.
-use Rattle.std.specs.Prelude.{◌≡◌, ℕ, suc, ◌-◌, ◌<◌, ◌≤◌, List, length, nat_eq, Some, slice_get, slice_index}
+use Rattle.std.specs.Prelude.{◌≡◌, ℕ, suc, ◌-◌, ◌<◌, List, length, nat_eq, Some, slice_get, slice_index}
 use Rattle.std.specs.HashMap.{get}
 use Rattle.pas_program.specs.declared.expr.Access.{Access}
 use Rattle.pas_program.specs.declared.expr.Expr.{Expr}

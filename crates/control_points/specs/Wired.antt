@@ -1,7 +1,6 @@
 -- What holds of the edges and checks of a flow while they are listed.
-use Rattle.std.specs.Prelude.{◌≡◌, ℕ, suc, ◌+◌, ◌-◌, ◌<◌, ◌≤◌, Bool, true, false, List, map, length, take, drop, nat_eq, Option, Some, None, slice_get, slice_index}
+use Rattle.std.specs.Prelude.{◌≡◌, ℕ, suc, ◌-◌, ◌<◌, ◌≤◌, Bool, true, false, List, map, length, take, Option, Some, None, slice_get, slice_index}
 use Rattle.pas_program.specs.declared.program.Program.{Program}
-use Rattle.pas_program.specs.declared.routine.Routine.{Routine}
 use Rattle.pas_program.specs.Checked.{numbers_in, scope_in, tables}
 use Rattle.control_points.specs.declared.check.Check.{Check}
 use Rattle.control_points.specs.declared.edge.Act.{Act}

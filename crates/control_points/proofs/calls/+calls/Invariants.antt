@@ -1,4 +1,4 @@
-use Rattle.std.proofs.Common.{◌≡◌, ◌++◌, map, drop}
+use Rattle.std.proofs.Common.{◌≡◌, ◌++◌, drop}
 use Rattle.control_points.specs.Calls.{exprs_calls, actuals_calls}
 use Rattle.control_points.specs.Called.{sites_of}
 use Rattle.control_points.proofs.calls.+calls.Given as goal

@@ -1,6 +1,5 @@
 use Rattle.std.proofs.Common.{◌≡◌, suc, ◌+◌, ◌-◌, ◌<◌, get_or, length, drop, sym, ap, subst, ◌∙◌, Some, add-one, arith}
 use Rattle.std.proofs.lemmas.Option.{slice_get-get_or}
-use Rattle.std.specs.List.{slice_index}
 use Rattle.control_points.specs.Extents.{routines_sizes}
 use Rattle.control_points.specs.Wired.{Begins, points_of}
 use Rattle.control_points.proofs.Drawn.{drawn_weaker}

@@ -1,6 +1,6 @@
 use Rattle.std.specs.List.{slice_set}
 use Rattle.std.proofs.Common.{◌≡◌, [], ◌∷◌, ◌++◌, suc, ◌+◌, ◌-◌, length, length-append, ap, ◌∙◌, sym, arith}
-use Rattle.control_points.specs.Extents.{body_extent, statement_extent}
+use Rattle.control_points.specs.Extents.{body_extent}
 use Rattle.control_points.specs.Marks.{before_mark, body_marks}
 use Rattle.control_points.proofs.Inside.{statement_inside}
 use Rattle.control_points.proofs.Left.{ok_appended3}

@@ -48,19 +48,30 @@ sequence-statement-requires t c =
     let p = s.program.now in
     let k = c.loop-k.k in
     let x = c.index-body-k.result in
-    let within : k < length c.args.body.now = omega arith in
-    (search (rules, the_lemmas),
-      (all_true_at (each_statement (numbers_in p)) c.args.body.now k x within c.index-body-k.is c.requires.numbers,
-      (all_true_at (statement_types_fit (tables p)) c.args.body.now k x within c.index-body-k.is c.requires.types,
-      (all_true_at (each_statement (scope_in p s.routine)) c.args.body.now k x within c.index-body-k.is c.requires.scopes,
-      (record {
-        low = omega (arith, i.low, c.requires.stands.low);
-        room = omega (arith, part.room, c.requires.stands.room);
-        next_low = c.choose-next.ensures.low s.entry c.requires.stands.next_low (omega (arith, i.low, c.requires.stands.low));
-        next_high = c.choose-next.ensures.high s.exit c.requires.stands.next_high (omega (arith, part.size, c.size.ensures, part.room, c.requires.stands.room));
-      },
-      (part.own,
-      i.drawn))))))
+    let within : k < length c.args.body.now = omega arith in (
+      search (rules, the_lemmas),
+      (
+        all_true_at (each_statement (numbers_in p)) c.args.body.now k x within c.index-body-k.is c.requires.numbers,
+        (
+          all_true_at (statement_types_fit (tables p)) c.args.body.now k x within c.index-body-k.is c.requires.types,
+          (
+            all_true_at (each_statement (scope_in p s.routine)) c.args.body.now k x within c.index-body-k.is c.requires.scopes,
+            (
+              record {
+                low = omega (arith, i.low, c.requires.stands.low);
+                room = omega (arith, part.room, c.requires.stands.room);
+                next_low = c.choose-next.ensures.low s.entry c.requires.stands.next_low (omega (arith, i.low, c.requires.stands.low));
+                next_high = c.choose-next.ensures.high s.exit c.requires.stands.next_high (omega (arith, part.size, c.size.ensures, part.room, c.requires.stands.room));
+              },
+              (
+                part.own,
+                i.drawn,
+              ),
+            ),
+          ),
+        ),
+      ),
+    )
 
 pub sequence-loop-k-preserved : goal.sequence-loop-k-preserved
 sequence-loop-k-preserved t c =
@@ -113,19 +124,30 @@ arms-statement-requires t c =
     let p = s.program.now in
     let k = c.loop-arm.arm-index in
     let x = c.arm-item.result in
-    let within : k < length c.args.arms.now = omega arith in
-    (search (rules, the_lemmas),
-      (arm_rule (numbers_in p) x (firsts_at (arm_of (numbers_in p)) c.args.arms.now k x within c.arm-item.is c.requires.numbers),
-      (arm_type (tables p) x (firsts_at (arm_types (tables p)) c.args.arms.now k x within c.arm-item.is c.requires.types),
-      (arm_rule (scope_in p s.routine) x (firsts_at (arm_of (scope_in p s.routine)) c.args.arms.now k x within c.arm-item.is c.requires.scopes),
-      (record {
-        low = omega (arith, i.low, c.requires.stands.low);
-        room = omega (arith, part.room, c.requires.stands.room, ap (λ (y : Extent). y.points) (arm_is x));
-        next_low = c.requires.stands.next_low;
-        next_high = c.requires.stands.next_high;
-      },
-      (subst (λ (y : Extent). Begins y.sizes (drop c.loop-arm.order s.numbering.now.sizes)) (arm_is x) part.own,
-      c.in_ok-arm.ensures))))))
+    let within : k < length c.args.arms.now = omega arith in (
+      search (rules, the_lemmas),
+      (
+        arm_rule (numbers_in p) x (firsts_at (arm_of (numbers_in p)) c.args.arms.now k x within c.arm-item.is c.requires.numbers),
+        (
+          arm_type (tables p) x (firsts_at (arm_types (tables p)) c.args.arms.now k x within c.arm-item.is c.requires.types),
+          (
+            arm_rule (scope_in p s.routine) x (firsts_at (arm_of (scope_in p s.routine)) c.args.arms.now k x within c.arm-item.is c.requires.scopes),
+            (
+              record {
+                low = omega (arith, i.low, c.requires.stands.low);
+                room = omega (arith, part.room, c.requires.stands.room, ap (λ (y : Extent). y.points) (arm_is x));
+                next_low = c.requires.stands.next_low;
+                next_high = c.requires.stands.next_high;
+              },
+              (
+                subst (λ (y : Extent). Begins y.sizes (drop c.loop-arm.order s.numbering.now.sizes)) (arm_is x) part.own,
+                c.in_ok-arm.ensures,
+              ),
+            ),
+          ),
+        ),
+      ),
+    )
 
 pub arms-loop-arm-preserved : goal.arms-loop-arm-preserved
 arms-loop-arm-preserved t c =
@@ -157,15 +179,28 @@ statement-act-requires-clause-here t c =
     c.in_ok-here.ensures.here
 
 pub statement-inner-requires : goal.statement-inner-requires
-statement-inner-requires t c =
-    (search (rules, the_lemmas),
-      (c.requires.numbers,
-      (c.requires.types,
-      (c.requires.scopes,
-      (c.requires.stands,
-      (c.requires.sizes,
-      (c.in_ok-here.ensures.here,
-      c.in_ok-act.ensures)))))))
+statement-inner-requires t c = (
+  search (rules, the_lemmas),
+  (
+    c.requires.numbers,
+    (
+      c.requires.types,
+      (
+        c.requires.scopes,
+        (
+          c.requires.stands,
+          (
+            c.requires.sizes,
+            (
+              c.in_ok-here.ensures.here,
+              c.in_ok-act.ensures,
+            ),
+          ),
+        ),
+      ),
+    ),
+  ),
+)
 
 pub inner-sequence-requires : goal.inner-sequence-requires
 inner-sequence-requires t c =
@@ -178,14 +213,25 @@ inner-sequence-requires t c =
     let points = points_at x d is in
     let calls = ap length (calls_at x d is) in
     let action = action_at x d is in
-    let inner = inner_sizes x d is zs c.args.stand.order c.requires.sizes in
-    (search (rules, the_lemmas),
-      (rw c.as_slice.ensures (rule_at x d is (numbers_in p) c.requires.numbers),
-      (rw c.as_slice.ensures (types_at x d is (tables p) c.requires.types),
-      (rw c.as_slice.ensures (and_parts (nat_lt 0 (length (map (each_statement (scope_in p s.routine)) c.in-Begin.body))) _ (rule_at x d is (scope_in p s.routine) c.requires.scopes)).1,
-      (rw c.as_slice.ensures (record { low = omega (arith, c.requires.here, c.requires.stands.low); room = omega (arith, points, calls, c.requires.here, c.requires.stands.room); next_low = c.requires.stands.next_low; next_high = c.requires.stands.next_high }),
-      (rw c.as_slice.ensures inner,
-      weaker_in s _ _ _ _ c.requires.graph (omega (arith, action))))))))
+    let inner = inner_sizes x d is zs c.args.stand.order c.requires.sizes in (
+      search (rules, the_lemmas),
+      (
+        rw c.as_slice.ensures (rule_at x d is (numbers_in p) c.requires.numbers),
+        (
+          rw c.as_slice.ensures (types_at x d is (tables p) c.requires.types),
+          (
+            rw c.as_slice.ensures (and_parts (nat_lt 0 (length (map (each_statement (scope_in p s.routine)) c.in-Begin.body))) _ (rule_at x d is (scope_in p s.routine) c.requires.scopes)).1,
+            (
+              rw c.as_slice.ensures (record { low = omega (arith, c.requires.here, c.requires.stands.low); room = omega (arith, points, calls, c.requires.here, c.requires.stands.room); next_low = c.requires.stands.next_low; next_high = c.requires.stands.next_high }),
+              (
+                rw c.as_slice.ensures inner,
+                weaker_in s _ _ _ _ c.requires.graph (omega (arith, action)),
+              ),
+            ),
+          ),
+        ),
+      ),
+    )
 
 pub inner-returns-in-Empty-clause-graph : goal.inner-returns-in-Empty-clause-graph
 inner-returns-in-Empty-clause-graph t c =
@@ -264,17 +310,34 @@ inner-arms-requires t c =
     let n = and_parts (each_expr q of) _ (rule_at x d is q c.requires.numbers) in
     let ty = and_parts (hosted (tables p) of).fits _ (types_at x d is (tables p) c.requires.types) in
     let ty2 = and_parts (list_all (in_host (hosted (tables p) of).boolean) (constants (map (arm_types (tables p)) c.in-Case.arms))) _ ty.1 in
-    let sc = and_parts (each_expr u of) _ (rule_at x d is u c.requires.scopes) in
-    (search (rules, the_lemmas),
-      (rw c.as_slice-in-Case.ensures n.1,
-      (rw c.as_slice-in-Case.ensures ty2.1,
-      (rw c.as_slice-in-Case.ensures sc.1,
-      (rw c.as_slice-in-Case.ensures (arms_fit p s.routine of c.in-Case.arms n.0 ty.0 ty2.0 sc.0),
-      (omega (arith, c.requires.here, c.requires.stands.low),
-      (refl,
-      (rw c.as_slice-in-Case.ensures (record { low = omega (arith, c.requires.here, c.requires.stands.low); room = omega (arith, points, calls, c.requires.here, c.requires.stands.room); next_low = c.requires.stands.next_low; next_high = c.requires.stands.next_high }),
-      (rw c.as_slice-in-Case.ensures inner,
-      weaker_in s _ _ _ _ c.requires.graph (omega (arith, action)))))))))))
+    let sc = and_parts (each_expr u of) _ (rule_at x d is u c.requires.scopes) in (
+      search (rules, the_lemmas),
+      (
+        rw c.as_slice-in-Case.ensures n.1,
+        (
+          rw c.as_slice-in-Case.ensures ty2.1,
+          (
+            rw c.as_slice-in-Case.ensures sc.1,
+            (
+              rw c.as_slice-in-Case.ensures (arms_fit p s.routine of c.in-Case.arms n.0 ty.0 ty2.0 sc.0),
+              (
+                omega (arith, c.requires.here, c.requires.stands.low),
+                (
+                  refl,
+                  (
+                    rw c.as_slice-in-Case.ensures (record { low = omega (arith, c.requires.here, c.requires.stands.low); room = omega (arith, points, calls, c.requires.here, c.requires.stands.room); next_low = c.requires.stands.next_low; next_high = c.requires.stands.next_high }),
+                    (
+                      rw c.as_slice-in-Case.ensures inner,
+                      weaker_in s _ _ _ _ c.requires.graph (omega (arith, action)),
+                    ),
+                  ),
+                ),
+              ),
+            ),
+          ),
+        ),
+      ),
+    )
 
 pub inner-returns-in-Case-clause-order : goal.inner-returns-in-Case-clause-order
 inner-returns-in-Case-clause-order t c =
@@ -325,17 +388,34 @@ inner-repeat-requires t c =
     let body = c.in-Repeat.body in
     let n = and_parts (all_true (map (each_statement q) body)) _ (rule_at x d is q c.requires.numbers) in
     let ty = and_parts (all_true (map (statement_types_fit (tables p)) body)) _ (types_at x d is (tables p) c.requires.types) in
-    let sc = and_parts (nat_lt 0 (length (map (each_statement u) body)) && all_true (map (each_statement u) body)) _ (rule_at x d is u c.requires.scopes) in
-    (search (rules, the_lemmas),
-      (expr_fit p s.routine cond n.1 (and_parts (hosted (tables p) cond).fits _ ty.1).0 sc.1,
-      (test_fits p s.routine cond true n.1 ty.1 sc.1,
-      (test_fits p s.routine cond false n.1 ty.1 sc.1,
-      (rw c.as_slice-in-Repeat.ensures n.0,
-      (rw c.as_slice-in-Repeat.ensures ty.0,
-      (rw c.as_slice-in-Repeat.ensures (and_parts (nat_lt 0 (length (map (each_statement u) body))) _ sc.0).1,
-      (rw c.as_slice-in-Repeat.ensures (record { low = c.requires.stands.low; room = omega (arith, points, c.requires.stands.room); next_low = c.requires.stands.next_low; next_high = c.requires.stands.next_high }),
-      (subst (λ b. Begins (repeat_extent b cond).sizes (drop c.args.stand.order zs)) (sym c.as_slice-in-Repeat.ensures) (repeat_sizes x body c.in-Repeat.at cond is zs c.args.stand.order c.requires.sizes),
-      weaker_in s _ _ _ _ c.requires.graph (omega (arith, action, calls, c.requires.here)))))))))))
+    let sc = and_parts (nat_lt 0 (length (map (each_statement u) body)) && all_true (map (each_statement u) body)) _ (rule_at x d is u c.requires.scopes) in (
+      search (rules, the_lemmas),
+      (
+        expr_fit p s.routine cond n.1 (and_parts (hosted (tables p) cond).fits _ ty.1).0 sc.1,
+        (
+          test_fits p s.routine cond true n.1 ty.1 sc.1,
+          (
+            test_fits p s.routine cond false n.1 ty.1 sc.1,
+            (
+              rw c.as_slice-in-Repeat.ensures n.0,
+              (
+                rw c.as_slice-in-Repeat.ensures ty.0,
+                (
+                  rw c.as_slice-in-Repeat.ensures (and_parts (nat_lt 0 (length (map (each_statement u) body))) _ sc.0).1,
+                  (
+                    rw c.as_slice-in-Repeat.ensures (record { low = c.requires.stands.low; room = omega (arith, points, c.requires.stands.room); next_low = c.requires.stands.next_low; next_high = c.requires.stands.next_high }),
+                    (
+                      subst (λ b. Begins (repeat_extent b cond).sizes (drop c.args.stand.order zs)) (sym c.as_slice-in-Repeat.ensures) (repeat_sizes x body c.in-Repeat.at cond is zs c.args.stand.order c.requires.sizes),
+                      weaker_in s _ _ _ _ c.requires.graph (omega (arith, action, calls, c.requires.here)),
+                    ),
+                  ),
+                ),
+              ),
+            ),
+          ),
+        ),
+      ),
+    )
 
 pub inner-returns-in-Repeat-clause-order : goal.inner-returns-in-Repeat-clause-order
 inner-returns-in-Repeat-clause-order t c =
@@ -381,19 +461,40 @@ inner-for_loop-requires t c =
     let sizes = ap length (sizes_at x d is) in
     let inner = inner_sizes x d is zs c.args.stand.order c.requires.sizes in
     let f = c.in-For in
-    let fit = for_fits p s.routine x f.control f.bound f.first f.down f.last f.body f.is c.requires.numbers c.requires.types c.requires.scopes in
-    (search (rules, the_lemmas),
-      (fit.again,
-      (fit.finish,
-      (rw c.get-in-For.ensures fit.numbers,
-      (rw c.get-in-For.ensures fit.types,
-      (rw c.get-in-For.ensures fit.scopes,
-      (omega (arith, c.requires.here, c.requires.stands.low),
-      (rw c.get-in-For.ensures (omega (arith, points, calls, c.requires.here, c.requires.stands.room)),
-      (c.requires.stands.next_low,
-      (c.requires.stands.next_high,
-      (rw c.get-in-For.ensures (sizes_both zs (c.args.stand.order + 1) (statement_extent f.body).sizes _ inner).0,
-      weaker_in s _ _ _ _ c.requires.graph (omega (arith, action)))))))))))))
+    let fit = for_fits p s.routine x f.control f.bound f.first f.down f.last f.body f.is c.requires.numbers c.requires.types c.requires.scopes in (
+      search (rules, the_lemmas),
+      (
+        fit.again,
+        (
+          fit.finish,
+          (
+            rw c.get-in-For.ensures fit.numbers,
+            (
+              rw c.get-in-For.ensures fit.types,
+              (
+                rw c.get-in-For.ensures fit.scopes,
+                (
+                  omega (arith, c.requires.here, c.requires.stands.low),
+                  (
+                    rw c.get-in-For.ensures (omega (arith, points, calls, c.requires.here, c.requires.stands.room)),
+                    (
+                      c.requires.stands.next_low,
+                      (
+                        c.requires.stands.next_high,
+                        (
+                          rw c.get-in-For.ensures (sizes_both zs (c.args.stand.order + 1) (statement_extent f.body).sizes _ inner).0,
+                          weaker_in s _ _ _ _ c.requires.graph (omega (arith, action)),
+                        ),
+                      ),
+                    ),
+                  ),
+                ),
+              ),
+            ),
+          ),
+        ),
+      ),
+    )
 
 pub inner-returns-in-For-clause-order : goal.inner-returns-in-For-clause-order
 inner-returns-in-For-clause-order t c =
@@ -478,14 +579,25 @@ pub for_loop-statement-requires : goal.for_loop-statement-requires
 for_loop-statement-requires t c =
     let s = c.args.self.now in
     let body = c.args.body.now in
-    let found = size_of s.numbering.now.sizes (c.args.stand.order + 1) (statement_extent body) (statement_headed body) c.requires.sizes in
-    (search (rules, the_lemmas),
-      (c.requires.numbers,
-      (c.requires.types,
-      (c.requires.scopes,
-      (record { low = omega (arith, c.requires.low); room = omega (arith, c.requires.room); next_low = omega (arith, c.requires.low); next_high = omega (arith, found.1, c.size.ensures, c.requires.room) },
-      (c.requires.sizes,
-      c.requires.graph))))))
+    let found = size_of s.numbering.now.sizes (c.args.stand.order + 1) (statement_extent body) (statement_headed body) c.requires.sizes in (
+      search (rules, the_lemmas),
+      (
+        c.requires.numbers,
+        (
+          c.requires.types,
+          (
+            c.requires.scopes,
+            (
+              record { low = omega (arith, c.requires.low); room = omega (arith, c.requires.room); next_low = omega (arith, c.requires.low); next_high = omega (arith, found.1, c.size.ensures, c.requires.room) },
+              (
+                c.requires.sizes,
+                c.requires.graph,
+              ),
+            ),
+          ),
+        ),
+      ),
+    )
 
 pub for_loop-turns-requires-clause-high : goal.for_loop-turns-requires-clause-high
 for_loop-turns-requires-clause-high t c =
@@ -598,14 +710,25 @@ repeat-sequence-requires t c =
     let found = size_of zs c.args.stand.order (repeat_extent body cond) ((both (statements_extent body) (extent_of (suc (length (expr_calls cond))))).sizes, refl) c.requires.sizes in
     let sites = c.calls_in_expr.new.sites in
     let same : sites_of sites.items ≡ expr_calls cond = c.in_ok-calls_in_expr.ensures ∙ ap (λ xs. sites_of xs ++ expr_calls cond) c.new-sites.ensures.items in
-    let many : length sites.items ≡ length (expr_calls cond) = sym (length-map sites.items site_of) ∙ ap length same in
-    (search (rules, the_lemmas),
-      (c.requires.numbers,
-      (c.requires.types,
-      (c.requires.scopes,
-      (record { low = omega (arith, c.requires.stands.low); room = omega (arith, c.requires.stands.room); next_low = omega (arith, found.1, c.size.ensures, many, sites.ok.0, c.len.ensures, c.requires.stands.low); next_high = omega (arith, found.1, c.size.ensures, c.requires.stands.room) },
-      ((sizes_both zs (c.args.stand.order + 1) (statements_extent body).sizes _ (sizes_rest zs c.args.stand.order _ _ c.requires.sizes)).0,
-      c.requires.graph))))))
+    let many : length sites.items ≡ length (expr_calls cond) = sym (length-map sites.items site_of) ∙ ap length same in (
+      search (rules, the_lemmas),
+      (
+        c.requires.numbers,
+        (
+          c.requires.types,
+          (
+            c.requires.scopes,
+            (
+              record { low = omega (arith, c.requires.stands.low); room = omega (arith, c.requires.stands.room); next_low = omega (arith, found.1, c.size.ensures, many, sites.ok.0, c.len.ensures, c.requires.stands.low); next_high = omega (arith, found.1, c.size.ensures, c.requires.stands.room) },
+              (
+                (sizes_both zs (c.args.stand.order + 1) (statements_extent body).sizes _ (sizes_rest zs c.args.stand.order _ _ c.requires.sizes)).0,
+                c.requires.graph,
+              ),
+            ),
+          ),
+        ),
+      ),
+    )
 
 pub repeat-calls-requires-clause-fits : goal.repeat-calls-requires-clause-fits
 repeat-calls-requires-clause-fits t c =
@@ -778,14 +901,25 @@ inner-statement-requires-in-While t c =
     let inner = inner_sizes x d is zs c.args.stand.order c.requires.sizes in
     let q = numbers_in p in
     let u = scope_in p s.routine in
-    let cond = c.in-While.cond in
-    (search (rules, the_lemmas),
-      (rw c.get-in-While.ensures (and_parts (each_expr q cond) _ (rule_at x d is q c.requires.numbers)).1,
-      (rw c.get-in-While.ensures (and_parts (is_of_host true (hosted (tables p) cond)) _ (types_at x d is (tables p) c.requires.types)).1,
-      (rw c.get-in-While.ensures (and_parts (each_expr u cond) _ (rule_at x d is u c.requires.scopes)).1,
-      (rw c.get-in-While.ensures (record { low = omega (arith, c.requires.here, c.requires.stands.low); room = omega (arith, points, calls, c.requires.here, c.requires.stands.room); next_low = c.requires.stands.low; next_high = omega (arith, points, c.requires.stands.room) }),
-      (rw c.get-in-While.ensures inner,
-      weaker_in s _ _ _ _ c.requires.graph (omega (arith, action))))))))
+    let cond = c.in-While.cond in (
+      search (rules, the_lemmas),
+      (
+        rw c.get-in-While.ensures (and_parts (each_expr q cond) _ (rule_at x d is q c.requires.numbers)).1,
+        (
+          rw c.get-in-While.ensures (and_parts (is_of_host true (hosted (tables p) cond)) _ (types_at x d is (tables p) c.requires.types)).1,
+          (
+            rw c.get-in-While.ensures (and_parts (each_expr u cond) _ (rule_at x d is u c.requires.scopes)).1,
+            (
+              rw c.get-in-While.ensures (record { low = omega (arith, c.requires.here, c.requires.stands.low); room = omega (arith, points, calls, c.requires.here, c.requires.stands.room); next_low = c.requires.stands.low; next_high = omega (arith, points, c.requires.stands.room) }),
+              (
+                rw c.get-in-While.ensures inner,
+                weaker_in s _ _ _ _ c.requires.graph (omega (arith, action)),
+              ),
+            ),
+          ),
+        ),
+      ),
+    )
 
 pub inner-returns-in-While-clause-order : goal.inner-returns-in-While-clause-order
 inner-returns-in-While-clause-order t c =
@@ -883,14 +1017,25 @@ inner-statement-requires t c =
     let found = size_of zs (c.args.stand.order + 1) (statement_extent f.yes) (statement_headed f.yes) split.0 in
     let n = rule_at x d is (numbers_in p) c.requires.numbers in
     let ty = types_at x d is (tables p) c.requires.types in
-    let sc = rule_at x d is (scope_in p s.routine) c.requires.scopes in
-    (search (rules, the_lemmas),
-      (rw c.get.ensures (if_first (numbers_in p) f.cond f.yes f.no n),
-      (rw c.get.ensures (if_first_types (tables p) f.cond f.yes f.no ty),
-      (rw c.get.ensures (if_first (scope_in p s.routine) f.cond f.yes f.no sc),
-      (rw c.get.ensures (record { low = omega (arith, c.requires.here, c.requires.stands.low); room = omega (arith, points, e_points, calls, c.requires.here, c.requires.stands.room); next_low = c.requires.stands.next_low; next_high = c.requires.stands.next_high }),
-      (rw c.get.ensures split.0,
-      weaker_in s _ _ _ _ c.requires.graph (omega (arith, action))))))))
+    let sc = rule_at x d is (scope_in p s.routine) c.requires.scopes in (
+      search (rules, the_lemmas),
+      (
+        rw c.get.ensures (if_first (numbers_in p) f.cond f.yes f.no n),
+        (
+          rw c.get.ensures (if_first_types (tables p) f.cond f.yes f.no ty),
+          (
+            rw c.get.ensures (if_first (scope_in p s.routine) f.cond f.yes f.no sc),
+            (
+              rw c.get.ensures (record { low = omega (arith, c.requires.here, c.requires.stands.low); room = omega (arith, points, e_points, calls, c.requires.here, c.requires.stands.room); next_low = c.requires.stands.next_low; next_high = c.requires.stands.next_high }),
+              (
+                rw c.get.ensures split.0,
+                weaker_in s _ _ _ _ c.requires.graph (omega (arith, action)),
+              ),
+            ),
+          ),
+        ),
+      ),
+    )
 
 pub inner-other-requires : goal.inner-other-requires
 inner-other-requires t c =
@@ -915,14 +1060,25 @@ inner-other-requires t c =
     let n = rule_at x d is (numbers_in p) c.requires.numbers in
     let ty = types_at x d is (tables p) c.requires.types in
     let sc = rule_at x d is (scope_in p s.routine) c.requires.scopes in
-    let order_is = rw c.get.ensures at c.in_ok-order-in-If.ensures.order in
-    (search (rules, the_lemmas),
-      (if_second (numbers_in p) f.cond f.yes f.no n,
-      (if_second_types (tables p) f.cond f.yes f.no ty,
-      (if_second (scope_in p s.routine) f.cond f.yes f.no sc,
-      (record { low = omega (arith, c.requires.here, c.requires.stands.low); room = omega (arith, found.1, c.size.ensures, points, e_points, calls, c.requires.here, c.requires.stands.room); next_low = c.requires.stands.next_low; next_high = c.requires.stands.next_high },
-      (subst (λ k. Begins more.sizes (drop k zs)) (sym order_is) split.1,
-      weaker_in s _ _ _ _ (rw c.get.ensures at c.in_ok-order-in-If.ensures.graph) (omega (arith, found.1, c.size.ensures))))))))
+    let order_is = rw c.get.ensures at c.in_ok-order-in-If.ensures.order in (
+      search (rules, the_lemmas),
+      (
+        if_second (numbers_in p) f.cond f.yes f.no n,
+        (
+          if_second_types (tables p) f.cond f.yes f.no ty,
+          (
+            if_second (scope_in p s.routine) f.cond f.yes f.no sc,
+            (
+              record { low = omega (arith, c.requires.here, c.requires.stands.low); room = omega (arith, found.1, c.size.ensures, points, e_points, calls, c.requires.here, c.requires.stands.room); next_low = c.requires.stands.next_low; next_high = c.requires.stands.next_high },
+              (
+                subst (λ k. Begins more.sizes (drop k zs)) (sym order_is) split.1,
+                weaker_in s _ _ _ _ (rw c.get.ensures at c.in_ok-order-in-If.ensures.graph) (omega (arith, found.1, c.size.ensures)),
+              ),
+            ),
+          ),
+        ),
+      ),
+    )
 
 pub inner-returns-in_ok-order-in-If-clause-graph : goal.inner-returns-in_ok-order-in-If-clause-graph
 inner-returns-in_ok-order-in-If-clause-graph t c =
@@ -953,11 +1109,22 @@ other-statement-requires t c =
     let e : second_or (extent_of 0) (option_map statement_extent c.args.no.now) ≡ statement_extent c.in-Some.no = ap (λ o. second_or (extent_of 0) (option_map statement_extent o)) c.in-Some.is in
     let n = ap (λ o. true_if_some (option_map (each_statement (numbers_in s.program.now)) o)) (sym c.in-Some.is) ∙ c.requires.numbers in
     let ty = ap (λ o. true_if_some (option_map (statement_types_fit (tables s.program.now)) o)) (sym c.in-Some.is) ∙ c.requires.types in
-    let sc = ap (λ o. true_if_some (option_map (each_statement (scope_in s.program.now s.routine)) o)) (sym c.in-Some.is) ∙ c.requires.scopes in
-    (search (rules, the_lemmas),
-      (rw c.get.ensures n,
-      (rw c.get.ensures ty,
-      (rw c.get.ensures sc,
-      (rw c.get.ensures (record { low = c.requires.stands.low; room = omega (arith, ap (λ (y : Extent). y.points) e, c.requires.stands.room); next_low = c.requires.stands.next_low; next_high = c.requires.stands.next_high }),
-      (rw c.get.ensures (subst (λ (y : Extent). Begins y.sizes (drop c.args.stand.order zs)) e c.requires.sizes),
-      c.requires.graph))))))
+    let sc = ap (λ o. true_if_some (option_map (each_statement (scope_in s.program.now s.routine)) o)) (sym c.in-Some.is) ∙ c.requires.scopes in (
+      search (rules, the_lemmas),
+      (
+        rw c.get.ensures n,
+        (
+          rw c.get.ensures ty,
+          (
+            rw c.get.ensures sc,
+            (
+              rw c.get.ensures (record { low = c.requires.stands.low; room = omega (arith, ap (λ (y : Extent). y.points) e, c.requires.stands.room); next_low = c.requires.stands.next_low; next_high = c.requires.stands.next_high }),
+              (
+                rw c.get.ensures (subst (λ (y : Extent). Begins y.sizes (drop c.args.stand.order zs)) e c.requires.sizes),
+                c.requires.graph,
+              ),
+            ),
+          ),
+        ),
+      ),
+    )

@@ -1,4 +1,4 @@
-use Rattle.std.proofs.Common.{◌≡◌, ◌+◌, ◌≤◌, length, map, drop}
+use Rattle.std.proofs.Common.{◌≡◌, ◌+◌, ◌≤◌, length, drop}
 use Rattle.control_points.specs.Drawing.{IsDrawn, SizesAt}
 use Rattle.control_points.specs.Extents.{arms_extent, statements_extent}
 use Rattle.control_points.proofs.wiring.Scene.+wire.Given as goal

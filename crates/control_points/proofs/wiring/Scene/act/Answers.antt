@@ -131,4 +131,3 @@ returns-after-no c = then_ok c.condition.result c.condition.ensures (λ g. weake
 
 pub returns-in-For : goal.returns-in-For
 returns-in-For c = then_ok c.bounds.result c.bounds.ensures (λ g. weaker_in c.args.self.now _ _ (c.args.here + 1) _ g (omega arith))
-
