@@ -1,6 +1,7 @@
 ghost use Rattle.std.specs.Prelude.{◌≡◌, ◌<◌, length, slice_get};
 ghost use Rattle.control_points.specs.Chart.{leaving, arriving};
 ghost use Rattle.control_points.specs.Fits.{PointsFit, EdgesFit, CallsReturn, ChecksFit, AssertsFit, EdgesListed};
+ghost use Rattle.control_points.specs.Leading.{EntriesFit, EdgesLead, ExitsReturn};
 
 use crate::check::Check;
 use crate::edge::Edge;
@@ -28,6 +29,9 @@ pub struct Flow {
     pub ghost calls_return: { CallsReturn points edges },
     pub ghost checks_fit: { ChecksFit points checks },
     pub ghost asserts_fit: { AssertsFit program points asserts },
+    pub ghost entries_fit: { EntriesFit program points },
+    pub ghost edges_lead: { EdgesLead points edges },
+    pub ghost exits_return: { ExitsReturn points edges },
     pub ghost edges_listed: { EdgesListed points edges outgoing incoming },
 }
 

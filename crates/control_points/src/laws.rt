@@ -17,7 +17,7 @@ ghost use Rattle.control_points.specs.Finding.{frame_at};
 ghost use Rattle.control_points.specs.Fits.{routine_at};
 ghost use Rattle.control_points.specs.Flows.{chart_of};
 ghost use Rattle.control_points.specs.Foreseen.{IsForeseen};
-ghost use Rattle.control_points.specs.Leading.{EntriesFit, EdgesLead, EdgesPair, IsAtEnd, IsCase};
+ghost use Rattle.control_points.specs.Leading.{EdgesPair, IsAtEnd, IsCase};
 ghost use Rattle.control_points.specs.Matching.{IsMadeAt, IsStep};
 ghost use Rattle.control_points.specs.Runs.{IsInput, IsOnTheWay, at, start};
 ghost use Rattle.control_points.specs.States.{Frame, State};
@@ -30,9 +30,9 @@ pub fn earlier_is_on_the_way()
     ensures { (c : Chart) (items : List Item) (i j : ℕ) → i ≤ j → IsOnTheWay c items j → IsOnTheWay c items i }
 {}
 
-/// The chart of a flow, of which each routine has an entry and each action leads to its own routine, is well formed.
+/// The chart of a flow is well formed.
 pub fn flows_are_well_formed()
-    ensures { (f : Flow) → EntriesFit f.program f.points → EdgesLead f.points f.edges → IsWellFormed (chart_of f) }
+    ensures { (f : Flow) → IsWellFormed (chart_of f) }
 {}
 
 /// A run begins in a valid state.

@@ -8,14 +8,23 @@
 //! a byte offset from 0 into the source.
 #![tactic(auto)]
 
+mod assembly;
+mod calls;
 mod check;
+mod copy;
 mod edge;
 mod fault;
 mod flow;
+mod graph;
 mod item;
+mod judging;
+mod labels;
 mod laws;
+mod numbering;
 mod point;
+mod wiring;
 
+pub use assembly::build;
 pub use check::Check;
 pub use edge::{Act, Edge};
 pub use fault::Fault;

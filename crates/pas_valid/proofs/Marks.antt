@@ -87,7 +87,7 @@ counted_first p b xs before = ap (λ ys. before + counted_if b (count_by p ys)) 
 pub counted_next : (p : ℕ → Bool) (b : Bool) (xs : List ℕ) (k before now after : ℕ) (x : ℕ) → k < length xs → x ≡ get_or xs k x → after ≡ now + counted_if b (one_if (p x)) → Counted p b xs k before now → Counted p b xs (k + 1) before after
 counted_next p b xs k before now after x h e s w =
     let d : counted_if b (count_by p (drop k xs)) ≡ counted_if b (one_if (p x)) + counted_if b (count_by p (drop (k + 1) xs)) =
-        ap (λ ys. counted_if b (count_by p ys)) (drop_next xs k x h e) ∙ ap (counted_if b) (sum_by-cons (λ y. one_if (p y)) x (drop (k + 1) xs)) ∙ counted_add b (one_if (p x)) (count_by p (drop (k + 1) xs)) in
+    ap (λ ys. counted_if b (count_by p ys)) (drop_next xs k x h e) ∙ ap (counted_if b) (sum_by-cons (λ y. one_if (p y)) x (drop (k + 1) xs)) ∙ counted_add b (one_if (p x)) (count_by p (drop (k + 1) xs)) in
     omega (arith, w, d, s)
 
 pub counted_last : (p : ℕ → Bool) (b : Bool) (xs : List ℕ) (k before now : ℕ) → length xs ≤ k → Counted p b xs k before now → now ≡ before + counted_if b (count_by p xs)
@@ -241,7 +241,7 @@ module _ (routines : List Routine) (sets : List Labels) (labels : Labels) (marks
     once = λ a.
         let this : is_marked (k + 1) ≡ true = lt-ltb 0 (k + 1) (omega arith) in
         let more : mark_count is_marked after a ≡ mark_count is_marked marks a + count_asserted a d.body =
-            asserted is_marked a refl ∙ ap (λ b. mark_count is_marked marks a + counted_if b (count_asserted a d.body)) this in
+        asserted is_marked a refl ∙ ap (λ b. mark_count is_marked marks a + counted_if b (count_asserted a d.body)) this in
         tallied_next (λ (e : Routine). count_asserted a e.body) routines k 0 _ _ d inside is more (s.once a);
     own = λ a r e h at. own_at a r e (nat_lt r k) refl h at;
     later = λ a r h.

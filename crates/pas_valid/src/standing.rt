@@ -33,12 +33,7 @@ fn statement(
 }
 
 #[cycle(standing)]
-fn body(
-    b: &Body,
-    mark: u32,
-    labels: &mut HashSet<u32>,
-    marks: &mut [u32],
-) -> Result<(), Refusal>
+fn body(b: &Body, mark: u32, labels: &mut HashSet<u32>, marks: &mut [u32]) -> Result<(), Refusal>
     ensures labels { OnOk result ((n : ℕ) → label_count labels.new n ≡ label_count labels.old n + body_over (label_worth n) b.now) }
     ensures asserts { OnOk result ((test : ℕ → Bool) (a : ℕ) → test 0 ≡ false → mark_count test marks.new a ≡ mark_count test marks.old a + counted_if (test mark) (body_over (assert_worth a) b.now)) }
 {
@@ -98,12 +93,7 @@ fn all_arms(
 }
 
 #[cycle(standing)]
-fn in_arm(
-    arm: &Arm,
-    mark: u32,
-    labels: &mut HashSet<u32>,
-    marks: &mut [u32],
-) -> Result<(), Refusal>
+fn in_arm(arm: &Arm, mark: u32, labels: &mut HashSet<u32>, marks: &mut [u32]) -> Result<(), Refusal>
     ensures labels { OnOk result ((n : ℕ) → label_count labels.new n ≡ label_count labels.old n + arm_over (label_worth n) arm.now) }
     ensures asserts { OnOk result ((test : ℕ → Bool) (a : ℕ) → test 0 ≡ false → mark_count test marks.new a ≡ mark_count test marks.old a + counted_if (test mark) (arm_over (assert_worth a) arm.now)) }
 {

@@ -1,150 +1,220 @@
--- What an answer says of the file, the shelf and the sinks.
-use Rattle.std.proofs.Common.{◌≡◌, ◌≢◌, ◌⊎◌, inl, inr, ℕ, ◌≤◌, List, length, Option, Some, None, Result, Ok, Err, IfOk, refl, sym, subst, map, arith}
-use Rattle.std.proofs.lemmas.Grind.{common_steps}
-use Rattle.std.specs.List.{All}
-use Rattle.std.specs.declared.alloc.AllocError.{AllocError}
-use Rattle.px_base.specs.Bytes.{Adds, AddsPrefix, ForFile}
+-- What an answer says of the file, the input and the sinks.
+use Rattle.std.proofs.Common.{◌≡◌, ◌≢◌, ◌⊎◌, inl, inr, ℕ, List, Option, None, refl, sym, ap, subst, ◌∙◌, codes}
+use Rattle.px_base.specs.Bytes.{Adds}
 use Rattle.px_base.specs.Faults.{Rose}
-use Rattle.first_form.specs.Grammar.{IsFormOf}
-use Rattle.first_form.specs.Text.{IsLineTrue, lines_of, text_of}
-use Rattle.first_form.specs.declared.form.Form.{Form}
-use Rattle.syntox.specs.Answers as answers
-use Rattle.syntox.specs.Answers.{Analyses, Complains, CutsLine, CutsReport, Examines, ForAsked, HasForm, HasNoForm, IsComplaint, IsReport, Moment, Reports, Says, Sinks, max_source, refusal_line, unreadable_line, usage_line}
-use Rattle.syntox.specs.Command.{asked_file}
+use Rattle.interp.specs.declared.running.Ending.{Ending}
+use Rattle.interp.specs.declared.running.Ending.TheVariants as ending
+use Rattle.syntox.specs.Analysis.{HasForm, HasNoForm, IsReport}
+use Rattle.syntox.specs.Analysis as analysis
+use Rattle.syntox.specs.Answers.{Cuts, ForCommand, ForRun, IsCut, IsDue, Outside}
+use Rattle.syntox.specs.Answers as due
+use Rattle.syntox.specs.Command.{Asked, analysis_of, run_of}
+use Rattle.syntox.specs.Lines.{large_input_line, max_input, refusal_line, unreadable_line, usage_line}
+use Rattle.syntox.specs.Lines as lines
+use Rattle.syntox.specs.Running.{IsFaultless, IsLargeInput, IsRun, IsRunStatus, TellsFault, status_of}
+use Rattle.syntox.specs.Running as running
+use Rattle.syntox.specs.Sinks.{Delivers, Moment, Sinks, Takes}
+use Rattle.syntox.specs.declared.due.Stream.{Stream}
+use Rattle.syntox.specs.declared.due.Stream.TheVariants.{Answers, Complaints}
 use Rattle.syntox.specs.declared.status.Status.{Status}
-use Rattle.syntox.specs.declared.status.Status.TheVariants.{Done, Refused, Usage, ReadFault, WriteFault}
+use Rattle.syntox.specs.declared.status.Status.TheVariants.{Done, Refused, Usage, ReadFault, WriteFault, RunError, OutOfSteps, DataTooLarge}
 
 -- ---- sinks
 
-pub says_same : (meant : Status) (before after : Moment) (text other : List ℕ) (status : Status) → text ≡ other
-    → Says meant before after text status → Says meant before after other status
-says_same meant before after text other status same says = subst (λ t. Says meant before after t status) same says
+-- The text went whole to the sink that it is due to, and the other sink is as it was.
+abbrev pub Went : Stream → List ℕ → Sinks → Type 0
+Went Answers text s = Adds s.out_before.taken s.out_after.taken text × (s.err_after ≡ s.err_before)
+Went Complaints text s = Adds s.err_before.taken s.err_after.taken text × (s.out_after ≡ s.out_before)
 
-pub if_ok : {A E : Type 0} (P Q : A → Type 0) (result : Result A E) → ((a : A) → P a → Q a) → IfOk result P → IfOk result Q
-if_ok P Q (Ok a) step is = step a is
-if_ok P Q (Err e) step is = is
+went : (to : Stream) (text : List ℕ) (meant : Status) (s : Sinks) (status : Status) → status ≢ WriteFault
+    → Delivers to text meant s status → (status ≡ meant) × Went to text s
+went Answers text meant s status whole (inl (is, adds), kept) = (is, (adds, kept))
+went Answers text meant s status whole (inr (is, rose, prefix), kept) = absurd (whole is)
+went Complaints text meant s status whole (inl (is, adds), kept) = (is, (adds, kept))
+went Complaints text meant s status whole (inr (is, rose, prefix), kept) = absurd (whole is)
 
--- the file has no form, and a line says so
-pub refuses : (file : List ℕ) (told : Option (Option (List ℕ))) (sinks : Sinks) (result : Result Status AllocError) → HasNoForm told
-    → sinks.out_after ≡ sinks.out_before → IfOk result (λ status. Says Refused sinks.err_before sinks.err_after (refusal_line file) status)
-    → IfOk result (λ status. Examines file told sinks status)
-refuses file told sinks result none kept = if_ok (λ status. Says Refused sinks.err_before sinks.err_after (refusal_line file) status)
-    (λ status. Examines file told sinks status) result (λ status says. inr (none, record { says = says; out_kept = kept }))
+cut : (to : Stream) (text : List ℕ) (meant : Status) (s : Sinks) → meant ≢ WriteFault → Delivers to text meant s WriteFault → IsCut to text s
+cut Answers text meant s other (inl (is, adds), kept) = absurd (other (sym is))
+cut Answers text meant s other (inr (is, rose, prefix), kept) = (rose, prefix, kept)
+cut Complaints text meant s other (inl (is, adds), kept) = absurd (other (sym is))
+cut Complaints text meant s other (inr (is, rose, prefix), kept) = (rose, prefix, kept)
 
--- ---- bytes that were read are what is told of the file
+-- ---- statuses
 
-pub report_of_bytes : (file bytes text : List ℕ) (form : Form) → length bytes ≤ max_source → IsFormOf bytes form → text ≡ text_of file form
-    → All (IsLineTrue form) (lines_of form) → IsReport file (Some (Some bytes)) text
-report_of_bytes file bytes text form few is text_is lines = record {
-  bytes = bytes;
-  of_file = record { there = (λ e. grind arith); bytes = λ known e. cc };
-  form = form;
-  has_form = (few, is);
-  is = text_is;
-  is_true = lines;
-}
+-- what was asked for was written
+abbrev pub IsText : Status → Type 0
+IsText Done = Unit {0}
+IsText RunError = Unit {0}
+IsText OutOfSteps = Unit {0}
+IsText _ = ⊥
 
-pub no_form_of_bytes : (bytes : List ℕ) → ((form : Form) → ¬ IsFormOf bytes form) → HasNoForm (Some (Some bytes))
-no_form_of_bytes bytes none = record {
-  there = (λ e. grind arith);
-  bytes = λ known e form has. let same : known ≡ bytes = cc in none form (subst (λ b. IsFormOf b form) same has.1);
-}
+text_of_end : (e : Ending) → IsText (status_of e)
+text_of_end ending.Halted = tt
+text_of_end (ending.Error fault) = tt
+text_of_end ending.OutOfSteps = tt
 
-pub report_of_file : (file bytes text : List ℕ) (told : Option (Option (List ℕ))) → ForFile told (λ known. bytes ≡ known)
-    → IsReport file (Some (Some bytes)) text → IsReport file told text
-report_of_file file bytes text told read r = record {
-  bytes = bytes;
-  of_file = read;
-  form = r.form;
-  has_form = subst (λ b. HasForm b r.form) (r.of_file.bytes bytes refl) r.has_form;
-  is = r.is;
-  is_true = r.is_true;
-}
+ran_text : (status : Status) (e : Ending) → status ≡ status_of e → IsText status
+ran_text status e is = subst IsText (sym is) (text_of_end e)
 
-pub no_form_of_file : (bytes : List ℕ) (told : Option (Option (List ℕ))) → ForFile told (λ known. bytes ≡ known)
-    → HasNoForm (Some (Some bytes)) → HasNoForm told
-no_form_of_file bytes told read none = record { there = read.there; bytes = λ known e form has. none.bytes bytes refl form (subst (λ b. HasForm b form) (sym (read.bytes known e)) has) }
+one_of : (status : Status) → IsText status → status ≢ Done → status ≢ RunError → status ≢ OutOfSteps → ⊥
+one_of Done t a b c = a refl
+one_of RunError t a b c = b refl
+one_of OutOfSteps t a b c = c refl
+one_of Refused t a b c = t
+one_of Usage t a b c = t
+one_of ReadFault t a b c = t
+one_of WriteFault t a b c = t
+one_of DataTooLarge t a b c = t
 
--- what is said of the bytes is said of the file
-pub examined : (file bytes given : List ℕ) (told : Option (Option (List ℕ))) (before after : ℕ) (sinks : Sinks) (result : Result Status AllocError)
-    → ForFile told (λ known. bytes ≡ known) → given ≡ bytes → IfOk result (λ status. Examines file (Some (Some given)) sinks status)
-    → IfOk result (λ status. Analyses file told before after sinks status)
-examined file bytes given told before after sinks result read same is = if_ok (λ status. Examines file (Some (Some bytes)) sinks status)
-    (λ status. Analyses file told before after sinks status) result (λ status is. inl (elim is as (λ _. Examines file told sinks status) [
-      | inl r ↦ inl (record { text = r.text; is_report = report_of_file file bytes r.text told read r.is_report; says = r.says; err_kept = r.err_kept })
-      | inr c ↦ inr (no_form_of_file bytes told read c.0, c.1)
-    ])) (subst (λ b. IfOk result (λ status. Examines file (Some (Some b)) sinks status)) same is)
+text_of_one : (status : Status) → (status ≡ Done) ⊎ ((status ≡ RunError) ⊎ (status ≡ OutOfSteps)) → IsText status
+text_of_one status (inl e) = subst IsText (sym e) tt
+text_of_one status (inr (inl e)) = subst IsText (sym e) tt
+text_of_one status (inr (inr e)) = subst IsText (sym e) tt
 
--- ---- what an answer says
+no_cut : (status : Status) → IsText status → status ≢ WriteFault
+no_cut status t e = subst IsText e t
 
--- words that were read at another place
-pub asked_at : {A : Type 0} (of : A → List ℕ) (words given : List A) (found : Option (List ℕ)) → given ≡ words
-    → found ≡ asked_file (map of given) → asked_file (map of words) ≡ found
-asked_at of words given found same is = sym (subst (λ ws. found ≡ asked_file (map of ws)) same is)
+-- ---- what is due, by its status
 
--- ---- sinks
+module _ {o : Outside} (s : Sinks) where
+  done_due : {asked : Option Asked} {to : Stream} {text : List ℕ} → IsDue o asked to text Done → Went to text s
+      → ForCommand asked (λ file. Takes s.out_before.taken s.out_after.taken (IsReport file (o.files file)))
+      (λ file steps. Takes s.out_before.taken s.out_after.taken (IsRun (o.files file) o.input.told steps Done))
+  done_due (due.unread u) w = elim u [ ]
+  done_due {text = text} (due.analysed (analysis.report is)) w = (text, is, w.0)
+  done_due (due.run (running.unread none u)) w = elim u [ ]
+  done_due {text = text} (due.run (running.ran is)) w = (text, is, w.0)
 
--- what was due and went to the sink whole
-pub said : (meant : Status) (before after : Moment) (text : List ℕ) (status : Status) → status ≢ WriteFault
-    → Says meant before after text status → Adds before.taken after.taken text
-said meant before after text status whole (inl (is, adds)) = adds
-said meant before after text status whole (inr (is, rose, prefix)) = absurd (whole is)
+  error_due : {asked : Option Asked} {to : Stream} {text : List ℕ} → IsDue o asked to text RunError → Went to text s
+      → ForRun asked (λ file steps. Takes s.out_before.taken s.out_after.taken (IsRun (o.files file) o.input.told steps RunError))
+  error_due (due.unread u) w = elim u [ ]
+  error_due (due.analysed a) w = elim a [ ]
+  error_due (due.run (running.unread none u)) w = elim u [ ]
+  error_due {text = text} (due.run (running.ran is)) w = (text, is, w.0)
 
-pub cut : (meant : Status) (before after : Moment) (text : List ℕ) → meant ≢ WriteFault
-    → Says meant before after text WriteFault → Rose before.faults after.faults × AddsPrefix before.taken after.taken text
-cut meant before after text other (inl (is, adds)) = absurd (other (sym is))
-cut meant before after text other (inr (is, rose, prefix)) = (rose, prefix)
+  steps_due : {asked : Option Asked} {to : Stream} {text : List ℕ} → IsDue o asked to text OutOfSteps → Went to text s
+      → ForRun asked (λ file steps. Takes s.out_before.taken s.out_after.taken (IsRun (o.files file) o.input.told steps OutOfSteps))
+  steps_due (due.unread u) w = elim u [ ]
+  steps_due (due.analysed a) w = elim a [ ]
+  steps_due (due.run (running.unread none u)) w = elim u [ ]
+  steps_due {text = text} (due.run (running.ran is)) w = (text, is, w.0)
 
--- ---- what the analysis of a file says
+  refused_due : {asked : Option Asked} {to : Stream} {text : List ℕ} → IsDue o asked to text Refused → Went to text s
+      → ForCommand asked (λ file. HasNoForm (o.files file) × Adds s.err_before.taken s.err_after.taken (refusal_line file))
+      (λ file steps. Takes s.err_before.taken s.err_after.taken (TellsFault file (o.files file)))
+  refused_due (due.unread u) w = elim u [ ]
+  refused_due (due.analysed (analysis.no_form none)) w = (none, w.0)
+  refused_due {text = text} (due.run (running.faulty tells)) w = (text, tells, w.0)
+  refused_due (due.run (running.unread none u)) w = elim u [ ]
+  refused_due (due.run (running.ran is)) w = absurd (ran_text Refused is.ended.ending is.is_status)
 
-module _ (file : List ℕ) (told : Option (Option (List ℕ))) (before after : ℕ) (sinks : Sinks) where
-  pub missing : Analyses file told before after sinks ReadFault → Rose before after × Complains (unreadable_line file) ReadFault sinks ReadFault
-  missing a = grind (arith, common_steps)
+  read_fault_due : {asked : Option Asked} {to : Stream} {text : List ℕ} → IsDue o asked to text ReadFault → Went to text s
+      → ForCommand asked (λ file. Rose o.before o.after × Adds s.err_before.taken s.err_after.taken (unreadable_line file))
+      (λ file steps. (Rose o.before o.after × Adds s.err_before.taken s.err_after.taken (unreadable_line file))
+      ⊎ (IsFaultless (o.files file) × Rose o.input.before o.input.after × Adds s.err_before.taken s.err_after.taken (unreadable_line (codes "input"))))
+  read_fault_due (due.unread {asks = analysis_of file} (lines.unreadable rose)) w = (rose, w.0)
+  read_fault_due (due.unread {asks = run_of file steps} (lines.unreadable rose)) w = inl (rose, w.0)
+  read_fault_due (due.analysed a) w = elim a [ ]
+  read_fault_due (due.run (running.unread none (lines.unreadable rose))) w = inr (none, rose, w.0)
+  read_fault_due (due.run (running.ran is)) w = absurd (ran_text ReadFault is.ended.ending is.is_status)
 
-  pub completes : (status : Status) (bytes : List ℕ) (form : Form) → told ≡ Some (Some bytes) → HasForm bytes form → ¬ Rose before after
-      → ¬ Rose sinks.out_before.faults sinks.out_after.faults → Analyses file told before after sinks status → status ≡ Done
-  completes status bytes form is has calm still (inl (inl reports)) = elim reports.says as (λ _. status ≡ Done) [
-    | inl whole ↦ whole.0
-    | inr part ↦ absurd (still part.1)
-  ]
-  completes status bytes form is has calm still (inl (inr (none, complains))) = absurd (none.bytes bytes is form has)
-  completes status bytes form is has calm still (inr (rose, complains)) = absurd (calm rose)
+  large_due : {asked : Option Asked} {to : Stream} {text : List ℕ} → IsDue o asked to text DataTooLarge → Went to text s
+      → ForRun asked (λ file steps. IsFaultless (o.files file) × IsLargeInput o.input.told × Adds s.err_before.taken s.err_after.taken large_input_line)
+  large_due (due.unread u) w = elim u [ ]
+  large_due (due.analysed a) w = elim a [ ]
+  large_due (due.run (running.unread none u)) w = elim u [ ]
+  large_due (due.run (running.large none more)) w = (none, more, w.0)
+  large_due (due.run (running.ran is)) w = absurd (ran_text DataTooLarge is.ended.ending is.is_status)
 
--- the answer, where there is one
-pub answer : {A E : Type 0} (P : A → Type 0) (result : Result A E) (a : A) → result ≡ Ok a → IfOk result P → P a
-answer P result a e is = subst (λ r. IfOk r P) e is
+  usage_due : {asked : Option Asked} {to : Stream} {text : List ℕ} → IsDue o asked to text Usage → Went to text s
+      → (asked ≡ None) × Adds s.err_before.taken s.err_after.taken usage_line
+  usage_due due.usage w = (refl, w.0)
+  usage_due (due.unread u) w = elim u [ ]
+  usage_due (due.analysed a) w = elim a [ ]
+  usage_due (due.run (running.unread none u)) w = elim u [ ]
+  usage_due (due.run (running.ran is)) w = absurd (ran_text Usage is.ended.ending is.is_status)
 
--- ---- clause by clause, where the words ask for the analysis of a file
+no_write_due : {o : Outside} {asked : Option Asked} {to : Stream} {text : List ℕ} → IsDue o asked to text WriteFault → ⊥
+no_write_due (due.unread u) = elim u [ ]
+no_write_due (due.analysed a) = elim a [ ]
+no_write_due (due.run (running.unread none u)) = elim u [ ]
+no_write_due (due.run (running.ran is)) = ran_text WriteFault is.ended.ending is.is_status
 
-module _ (asked : Option (List ℕ)) (told : List ℕ → Option (Option (List ℕ))) (before after : ℕ) (sinks : Sinks) (file : List ℕ) (asks : asked ≡ Some file) where
-  module _ (result : Result Status AllocError) (is : IfOk result (λ status. Analyses file (told file) before after sinks status)) where
-    pub read_fault : result ≡ Ok ReadFault → ForAsked asked (λ file. Rose before after × Adds sinks.err_before.taken sinks.err_after.taken (unreadable_line file))
-    read_fault e =
-        let r = missing file (told file) before after sinks (answer _ result ReadFault e is) in
-        (file, asks, (r.0, said ReadFault sinks.err_before sinks.err_after (unreadable_line file) ReadFault (λ x. grind arith) r.1.says))
+-- ---- clause by clause
 
-    pub write_fault : result ≡ Ok WriteFault → CutsReport asked told sinks ⊎ CutsLine asked told before after sinks
-    write_fault e = elim (answer (λ status. Analyses file (told file) before after sinks status) result WriteFault e is) as (λ _. CutsReport asked told sinks ⊎ CutsLine asked told before after sinks) [
-      | inl (inl r) ↦ let c = cut Done sinks.out_before sinks.out_after r.text (λ x. grind arith) r.says in
-          inl (record { rose = c.0; file = file; is_asked = asks; text = r.text; is_report = r.is_report; prefix = c.1; err_kept = r.err_kept })
-      | inl (inr (none, r)) ↦ let c = cut Refused sinks.err_before sinks.err_after (refusal_line file) (λ x. grind arith) r.says in
-          inr (record { rose = c.0; line = refusal_line file; is_complaint = answers.refused file asks none; prefix = c.1; out_kept = r.out_kept })
-      | inr (rose, r) ↦ let c = cut ReadFault sinks.err_before sinks.err_after (unreadable_line file) (λ x. grind arith) r.says in
-          inr (record { rose = c.0; line = unreadable_line file; is_complaint = answers.unreadable file asks rose; prefix = c.1; out_kept = r.out_kept })
-    ]
+module _ (o : Outside) (s : Sinks) (asked : Option Asked) (to : Stream) (text : List ℕ) (meant status : Status)
+    (is : IsDue o asked to text meant) (delivered : Delivers to text meant s status) where
+  -- what is due under a status other than that of a sink that failed, and that it went whole to its sink
+  answered : (other : Status) → other ≢ WriteFault → status ≡ other → IsDue o asked to text other × Went to text s
+  answered other whole e =
+      let w = went to text meant s status (λ f. whole (sym e ∙ f)) delivered in
+      (subst (λ m. IsDue o asked to text m) (sym w.0 ∙ e) is, w.1)
 
-    pub complete : (other bytes : List ℕ) (form : Form) → asked ≡ Some other → told other ≡ Some (Some bytes) → HasForm bytes form
-        → ¬ Rose before after → ¬ Rose sinks.out_before.faults sinks.out_after.faults → IfOk result (λ status. status ≡ Done)
-    complete other bytes form asks_other tells has calm still =
-        let same : other ≡ file = grind arith in
-        if_ok (λ status. Analyses file (told file) before after sinks status) (λ status. status ≡ Done) result
-        (λ status a. completes file (told file) before after sinks status bytes form (subst (λ f. told f ≡ Some (Some bytes)) same tells) has calm still a) is
+  pub done : status ≡ Done → ForCommand asked (λ file. Takes s.out_before.taken s.out_after.taken (IsReport file (o.files file)))
+      (λ file steps. Takes s.out_before.taken s.out_after.taken (IsRun (o.files file) o.input.told steps Done))
+  done e = let a = answered Done (λ f. cc) e in done_due s a.0 a.1
 
--- ---- and where they ask for nothing that is served
+  pub run_error : status ≡ RunError
+      → ForRun asked (λ file steps. Takes s.out_before.taken s.out_after.taken (IsRun (o.files file) o.input.told steps RunError))
+  run_error e = let a = answered RunError (λ f. cc) e in error_due s a.0 a.1
 
-module _ (asked : Option (List ℕ)) (told : List ℕ → Option (Option (List ℕ))) (before after : ℕ) (sinks : Sinks) (asks : asked ≡ None) where
-  module _ (status : Status) (says : Says Usage sinks.err_before sinks.err_after usage_line status) (kept : sinks.out_after ≡ sinks.out_before) where
-    pub usage_cut : status ≡ WriteFault → CutsReport asked told sinks ⊎ CutsLine asked told before after sinks
-    usage_cut e =
-        let c = cut Usage sinks.err_before sinks.err_after usage_line (λ x. grind arith) (subst (λ s. Says Usage sinks.err_before sinks.err_after usage_line s) e says) in
-        inr (record { rose = c.0; line = usage_line; is_complaint = answers.usage asks; prefix = c.1; out_kept = kept })
+  pub out_of_steps : status ≡ OutOfSteps
+      → ForRun asked (λ file steps. Takes s.out_before.taken s.out_after.taken (IsRun (o.files file) o.input.told steps OutOfSteps))
+  out_of_steps e = let a = answered OutOfSteps (λ f. cc) e in steps_due s a.0 a.1
+
+  pub refused : status ≡ Refused
+      → ForCommand asked (λ file. HasNoForm (o.files file) × Adds s.err_before.taken s.err_after.taken (refusal_line file))
+      (λ file steps. Takes s.err_before.taken s.err_after.taken (TellsFault file (o.files file)))
+  refused e = let a = answered Refused (λ f. cc) e in refused_due s a.0 a.1
+
+  pub read_fault : status ≡ ReadFault
+      → ForCommand asked (λ file. Rose o.before o.after × Adds s.err_before.taken s.err_after.taken (unreadable_line file))
+      (λ file steps. (Rose o.before o.after × Adds s.err_before.taken s.err_after.taken (unreadable_line file))
+      ⊎ (IsFaultless (o.files file) × Rose o.input.before o.input.after × Adds s.err_before.taken s.err_after.taken (unreadable_line (codes "input"))))
+  read_fault e = let a = answered ReadFault (λ f. cc) e in read_fault_due s a.0 a.1
+
+  pub data_too_large : status ≡ DataTooLarge
+      → ForRun asked (λ file steps. IsFaultless (o.files file) × IsLargeInput o.input.told × Adds s.err_before.taken s.err_after.taken large_input_line)
+  data_too_large e = let a = answered DataTooLarge (λ f. cc) e in large_due s a.0 a.1
+
+  pub usage : status ≡ Usage → (asked ≡ None) × Adds s.err_before.taken s.err_after.taken usage_line
+  usage e = let a = answered Usage (λ f. cc) e in usage_due s a.0 a.1
+
+  pub write_fault : status ≡ WriteFault → Cuts o asked s
+  write_fault e = record {
+    to = to;
+    text = text;
+    meant = meant;
+    is_due = is;
+    is_cut = cut to text meant s (λ m. no_write_due (subst (λ x. IsDue o asked to text x) m is))
+        (subst (λ x. Delivers to text meant s x) e delivered);
+  }
+
+-- ---- which sink stays as it was
+
+out_has_text : {o : Outside} {asked : Option Asked} {text : List ℕ} {meant : Status} → IsDue o asked Answers text meant → IsText meant
+out_has_text (due.unread u) = elim u [ ]
+out_has_text (due.analysed (analysis.report is)) = tt
+out_has_text (due.run (running.unread none u)) = elim u [ ]
+out_has_text {meant = meant} (due.run (running.ran is)) = ran_text meant is.ended.ending is.is_status
+
+err_has_none : {o : Outside} {asked : Option Asked} {text : List ℕ} {meant : Status} → IsDue o asked Complaints text meant → IsText meant → ⊥
+err_has_none due.usage t = t
+err_has_none (due.unread (lines.unreadable rose)) t = t
+err_has_none (due.analysed (analysis.no_form none)) t = t
+err_has_none (due.run (running.faulty tells)) t = t
+err_has_none (due.run (running.unread none (lines.unreadable rose))) t = t
+err_has_none (due.run (running.large none more)) t = t
+
+module _ (o : Outside) (s : Sinks) (asked : Option Asked) (text : List ℕ) (meant status : Status) where
+  pub out_kept : (to : Stream) → IsDue o asked to text meant → Delivers to text meant s status
+      → status ≢ Done → status ≢ RunError → status ≢ OutOfSteps → status ≢ WriteFault → s.out_after.taken ≡ s.out_before.taken
+  out_kept Complaints is delivered a b c d = ap (λ (m : Moment). m.taken) delivered.1
+  out_kept Answers is (inl (e, adds), kept) a b c d = absurd (one_of status (subst IsText (sym e) (out_has_text is)) a b c)
+  out_kept Answers is (inr (e, rose, prefix), kept) a b c d = absurd (d e)
+
+  pub err_kept : (to : Stream) → IsDue o asked to text meant → Delivers to text meant s status
+      → (status ≡ Done) ⊎ ((status ≡ RunError) ⊎ (status ≡ OutOfSteps)) → s.err_after.taken ≡ s.err_before.taken
+  err_kept Answers is delivered one = ap (λ (m : Moment). m.taken) delivered.1
+  err_kept Complaints is (inl (e, adds), kept) one = absurd (err_has_none is (subst IsText e (text_of_one status one)))
+  err_kept Complaints is (inr (e, rose, prefix), kept) one = absurd (no_cut status (text_of_one status one) e)

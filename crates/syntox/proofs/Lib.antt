@@ -1,1 +1,5 @@
 pub mod Causes
+pub mod Complete
+pub mod Faults
+pub mod Owed
+pub mod Steps

@@ -1,2 +1,7 @@
+pub mod Analysis
 pub mod Answers
 pub mod Command
+pub mod Lines
+pub mod Running
+pub mod Sinks
+pub mod Source

@@ -1,9 +1,14 @@
-//! Syntox analyses a Pascal program without running it. `top` is all that the program does; `main` makes the real
+//! Syntox analyses a Pascal program without running it, and runs one. `top` is all that the program does; `main` makes the real
 //! shelf, source and sinks, calls it and ends with the number of its status.
 #![tactic(auto)]
 
 mod adapters;
+mod analyse;
 mod command;
+mod due;
+mod limit;
+mod run;
+mod source;
 mod status;
 #[cfg(test)]
 mod tests;

@@ -1,0 +1,12 @@
+use Rattle.std.proofs.Common.{arith}
+use Rattle.control_points.proofs.Left.{then_ok}
+use Rattle.control_points.proofs.Scened.{judged_in, weaker_in}
+use Rattle.control_points.proofs.wiring.Scene.bounds.Goals as goal
+
+pub returns : goal.returns
+returns c =
+    let s = c.args.self.now in
+    let g = c.args.graph.now in
+    let judged = judged_in s g.edges g.checks c.bounds.new.checks c.args.here c.judge.result _ c.requires.graph (omega arith) c.requires.high c.judge.ensures.point c.in_ok-bounds.ensures in
+    let first = c.in_ok-edge.ensures c.args.here judged in
+    then_ok c.edge-2.result (c.edge-2.ensures c.args.here first) (λ h. weaker_in s _ _ c.args.here _ h (omega arith))

@@ -1,0 +1,11 @@
+use Rattle.std.proofs.Common.{drop}
+use Rattle.std.specs.List.{slice_index}
+use Rattle.control_points.specs.Extents.{routines_sizes}
+use Rattle.control_points.specs.Wired.{Begins, IsGraph, points_of}
+use Rattle.control_points.proofs.wiring.wire.Given as goal
+
+abbrev pub invariant-loop-r : goal.invariant-loop-r
+invariant-loop-r l = record {
+  sizes : Begins (routines_sizes (drop l.r l.program.routines)) (drop l.order l.numbering.sizes);
+  drawn : IsGraph l.program (points_of l.numbering.marks) l.graph.edges l.graph.checks (slice_index l.numbering.entries l.r)
+}

@@ -1,0 +1,47 @@
+use Rattle.std.proofs.Common.{refl, ◌+◌, ap, arith, ◌∙◌}
+use Rattle.interp.specs.declared.frame.Extent.{Extent}
+use Rattle.interp.specs.Machines.{AreLinks}
+use Rattle.interp.proofs.Lists.{one_of}
+use Rattle.interp.proofs.Numbers.{scalars_cut, scalars_more, links_more}
+use Rattle.interp.proofs.Storage.{extent_few}
+use Rattle.interp.proofs.machine.Machine.make_room.Goals as goal
+
+pub overflow_add-base : goal.overflow_add-base
+overflow_add-base c =
+    let m = c.args.self.now in
+    let b = ap (λ (x : Extent). x.scalars) c.requires.base in
+    let e = ap (λ (x : Extent). x.scalars) c.extent_of-extent.ensures in
+    omega (arith, b, e, m.stored.room, m.scalars.ok.0, m.scalars.ok.1, m.scalars.small, (extent_few m.flow.now.program c.args.routine).scalars)
+
+pub overflow_add-base-2 : goal.overflow_add-base-2
+overflow_add-base-2 c =
+    let m = c.args.self.now in
+    let b = ap (λ (x : Extent). x.links) c.requires.base in
+    let e = ap (λ (x : Extent). x.links) c.extent_of-extent.ensures in
+    omega (arith, b, e, m.linked.room, m.links.ok.0, m.links.ok.1, m.links.small, (extent_few m.flow.now.program c.args.routine).links)
+
+pub invariant_of-self : goal.invariant_of-self
+invariant_of-self c =
+    let m = c.args.self.now in
+    record {
+      leads = m.leads;
+      laid_out = m.laid_out;
+      input = m.input;
+      framed = m.framed;
+      linked = m.linked;
+      stored = scalars_cut m.flow.now.program m.frames.items m.scalars.items _ c.args.base.scalars m.stored (ap (λ (x : Extent). x.scalars) c.requires.base) (c.in_err-resize.ensures.items ∙ c.truncate.ensures.items);
+    }
+
+pub invariant_of-self-2 : goal.invariant_of-self-2
+invariant_of-self-2 c =
+    let m = c.args.self.now in
+    let b = ap (λ (x : Extent). x.scalars) c.requires.base in
+    let l = ap (λ (x : Extent). x.links) c.requires.base in
+    record {
+      leads = m.leads;
+      laid_out = m.laid_out;
+      input = m.input;
+      framed = m.framed;
+      linked = one_of (AreLinks m.flow.now.program m.frames.items) _ _ _ _ c.resize-2.ensures.items (links_more m.flow.now m.frames.items m.links.items _ (c.args.base.links + c.extent_of-extent.result.links) _ m.framed m.linked (omega (arith, l)) refl) m.linked;
+      stored = scalars_more m.flow.now.program m.frames.items _ _ _ _ (scalars_cut m.flow.now.program m.frames.items m.scalars.items _ c.args.base.scalars m.stored b c.truncate.ensures.items) (omega (arith, b)) c.in_ok-resize.ensures.items;
+    }

@@ -1,0 +1,9 @@
+pub mod Calls
+pub mod Deeds
+pub mod InputItems
+pub mod Layouts
+pub mod Machines
+pub mod Places
+pub mod RunText
+pub mod Same
+pub mod Standing

@@ -1,0 +1,607 @@
+//! Which action is to be done next, and what it does (ISO 7185, 6.8 and 6.9).
+ghost use Rattle.std.specs.Prelude.{◌≡◌, ◌-◌, ◌<◌, false, length, map, slice_get, IfOk, IfSome, Some, true};
+ghost use Rattle.arithmetic.specs.Numbers.{IsNumber};
+ghost use Rattle.pas_program.specs.Checked.{numbers_in, scope_in, tables};
+ghost use Rattle.pas_program.specs.Each.{each_access, each_expr, each_item};
+ghost use Rattle.pas_program.specs.Tables.{is_visible};
+ghost use Rattle.pas_program.specs.Typed.{copy_fits, hosted, hosted_by, is_of_host, is_target, item_fits, reached, type_of_var, unary_gives};
+ghost use Rattle.pas_program.specs.Types.{is_scalar};
+ghost use Rattle.control_points.specs.Acts.{act_types_fit, each_act};
+ghost use Rattle.control_points.specs.Actions.{comes_before, in_order, slot_at, stepped};
+ghost use Rattle.control_points.specs.Chart.{leaving, place_of_point};
+ghost use Rattle.control_points.specs.Input as input;
+ghost use Rattle.std.specs.Option.{option_map};
+ghost use Rattle.interp.specs.Deeds.{AreSafe, IsAsked, IsChange, IsDeedOf, IsOwn, LandsAt, top_call};
+ghost use Rattle.interp.specs.Machines.{AreItems, top_of, top_point, top_routine};
+
+use crate::evaluate::checked;
+use crate::machine::Machine;
+use crate::write::{Output, Text};
+use control_points::{Act, Edge, Fault, Item};
+use pas_program::{Access, Actual, Expr, ExprForm, TypeDef, WriteItem, WriteValue};
+use px_base::{BinOp, Kind, UnOp};
+
+/// A change of the storage.
+#[derive(Clone, Copy, Debug)]
+pub(crate) enum Change {
+    Nothing,
+    /// A scalar gets a number or becomes undefined.
+    Set {
+        address: usize,
+        value: Option<i32>,
+    },
+    /// The control variable of a `for` and the hidden variable of its last value get theirs.
+    Start {
+        control: usize,
+        first: i32,
+        bound: usize,
+        last: i32,
+    },
+    /// Scalars in a row get what others hold.
+    Copy {
+        to: usize,
+        from: usize,
+        count: usize,
+    },
+}
+
+/// What an action does that is no call.
+#[derive(Clone, Copy, Debug)]
+pub(crate) struct Effect<'a> {
+    /// Which activation goes on; those above it end.
+    pub depth: usize,
+    pub change: Change,
+    /// The input that is left.
+    pub items: &'a [Item],
+    pub output: Option<Output<'a>>,
+}
+
+/// An action that is to be done.
+#[derive(Clone, Copy, Debug)]
+pub(crate) enum Deed<'a> {
+    Lands(Effect<'a>),
+    /// A call, whose actuals are still to be evaluated.
+    Calls { routine: u32, actuals: &'a [Actual] },
+}
+
+/// What came of asking for an action: none, where it is not the one to be done.
+pub(crate) type Decision<'a> = Result<Option<Deed<'a>>, Fault>;
+
+impl<'a> Machine<'a> {
+    /// The first edge whose action is to be done, and that action.
+    pub(crate) fn decide(&self) -> Result<Option<(u32, Deed<'a>)>, Fault>
+        ensures safe { IfOk result (λ o. IfSome o (λ d. IsDeedOf self.now.flow.now self.now.frames.items d.0 d.1)) }
+    {
+        let flow = self.flow;
+        for number in self.edges_onward() {
+            if let Some(deed) = self.deed_of(&flow.edges()[*number as usize])? {
+                return Ok(Some((*number, deed)));
+            }
+        }
+        Ok(None)
+    }
+
+    /// The edges that leave the point of the latest activation.
+    fn edges_onward(&self) -> &'a [u32]
+        ensures { result.now ≡ leaving self.now.flow.now.edges (top_point self.now.frames.items) }
+    {
+        let flow = self.flow;
+        match flow.outgoing.get(self.top().point) {
+            Some(edges) => edges.as_slice(),
+            None => &[],
+        }
+    }
+
+    /// The error where no constant of a `case` is the selector's value.
+    pub(crate) fn no_case_label(&self) -> Fault {
+        let flow = self.flow;
+        let at = match self.edges_onward() {
+            [] => 0,
+            [edge, ..] => match &flow.edges()[*edge as usize].act {
+                Act::Arm { of, .. } => of.first,
+                _ => 0,
+            },
+        };
+        Fault {
+            kind: Kind::NoCaseLabel,
+            at,
+        }
+    }
+
+    /// What the action of an edge that leaves the point of the latest activation asks to be done.
+    fn deed_of(&self, edge: &'a Edge) -> Decision<'a>
+        requires numbers { each_act (numbers_in self.now.flow.now.program) edge.now.act ≡ true }
+        requires types { act_types_fit (tables self.now.flow.now.program) edge.now.act ≡ true }
+        requires scopes { each_act (scope_in self.now.flow.now.program (top_routine self.now.frames.items)) edge.now.act ≡ true }
+        requires source { edge.now.from < length self.now.flow.now.points }
+        ensures safe { IfOk result (λ o. IfSome o (IsAsked self.now.flow.now.program self.now.frames.items edge.now.act)) }
+    {
+        match &edge.act {
+            Act::Skip => self.does(Change::Nothing),
+            Act::Assign { to, value } => self.assign(to, value),
+            Act::Copy { to, from } => self.copy(to, from),
+            Act::Call {
+                routine,
+                actuals,
+                ..
+            } => Ok(Some(Deed::Calls {
+                routine: *routine,
+                actuals: actuals.as_slice(),
+            })),
+            Act::Return { call } => self.return_from(*call, self.place_of_point(edge.from)),
+            Act::Goto { routine } => self.goes_on(
+                self.depth_of(*routine as usize),
+                Change::Nothing,
+            ),
+            Act::Test { cond, wanted } => self.test(cond, *wanted),
+            Act::Arm { of, consts } => self.arm(of, consts.as_slice()),
+            Act::Enter {
+                control,
+                bound,
+                first,
+                down,
+                last,
+            } => self.enter(*control, *bound, first, *down, last),
+            Act::Bypass {
+                control,
+                first,
+                down,
+                last,
+                ..
+            } => self.bypass(*control, first, *down, last),
+            Act::Next {
+                control,
+                bound,
+                down,
+            } => self.next_turn(*control, *bound, *down, self.place_of_point(edge.from)),
+            Act::Finish {
+                control,
+                bound,
+                down,
+            } => self.finish(*control, *bound, *down, self.place_of_point(edge.from)),
+            Act::Read { to } => self.read(to),
+            Act::DropLine => self.lands(after_line(self.items), None),
+            Act::Write { item } => self.write(item),
+            Act::EndLine => self.lands(
+                self.items,
+                Some(Output {
+                    text: Text::Bytes(b"\n"),
+                    width: None,
+                }),
+            ),
+        }
+    }
+
+    fn place_of_point(&self, point: u32) -> u32
+        requires { point < length self.now.flow.now.points }
+        ensures { result ≡ place_of_point self.now.flow.now.points point }
+    {
+        self.flow.points()[point as usize].at
+    }
+
+    /// The activation at a depth goes on, with a change of the storage alone.
+    fn goes_on(&self, depth: usize, change: Change) -> Decision<'a>
+        requires depth { depth < length self.now.frames.items }
+        requires change { IsChange self.now.flow.now.program self.now.frames.items change }
+        ensures safe { AreSafe self.now.flow.now.program self.now.frames.items depth result }
+    {
+        Ok(Some(Deed::Lands(Effect {
+            depth,
+            change,
+            items: self.items,
+            output: None,
+        })))
+    }
+
+    /// The latest activation goes on.
+    fn does(&self, change: Change) -> Decision<'a>
+        requires { IsChange self.now.flow.now.program self.now.frames.items change }
+        ensures safe { AreSafe self.now.flow.now.program self.now.frames.items (top_of self.now.frames.items) result }
+    {
+        self.goes_on(self.frames.len() - 1, change)
+    }
+
+    /// The latest activation goes on, with input or output alone.
+    fn lands(&self, items: &'a [Item], output: Option<Output<'a>>) -> Decision<'a>
+        requires { AreItems items.now }
+        ensures safe { AreSafe self.now.flow.now.program self.now.frames.items (top_of self.now.frames.items) result }
+    {
+        Ok(Some(Deed::Lands(Effect {
+            depth: self.frames.len() - 1,
+            change: Change::Nothing,
+            items,
+            output,
+        })))
+    }
+
+    /// The subscripts on the left are evaluated first.
+    fn assign(&self, to: &Access, value: &Expr) -> Decision<'a>
+        requires to_numbers { each_access (numbers_in self.now.flow.now.program) to.now ≡ true }
+        requires to_scopes { each_access (scope_in self.now.flow.now.program (top_routine self.now.frames.items)) to.now ≡ true }
+        requires value_numbers { each_expr (numbers_in self.now.flow.now.program) value.now ≡ true }
+        requires value_scopes { each_expr (scope_in self.now.flow.now.program (top_routine self.now.frames.items)) value.now ≡ true }
+        requires value_fits { (hosted (tables self.now.flow.now.program) value.now).fits ≡ true }
+        requires target { is_target (tables self.now.flow.now.program) (hosted (tables self.now.flow.now.program) value.now).boolean (reached (tables self.now.flow.now.program) to.now) ≡ true }
+        ensures safe { AreSafe self.now.flow.now.program self.now.frames.items (top_of self.now.frames.items) result }
+    {
+        let address = self.spot(to)?;
+        let z = self.assigned(self.flow.program.type_of_access(to), value)?;
+        self.does(Change::Set {
+            address,
+            value: Some(z),
+        })
+    }
+
+    fn copy(&self, to: &Access, from: &Access) -> Decision<'a>
+        requires to_numbers { each_access (numbers_in self.now.flow.now.program) to.now ≡ true }
+        requires to_scopes { each_access (scope_in self.now.flow.now.program (top_routine self.now.frames.items)) to.now ≡ true }
+        requires from_numbers { each_access (numbers_in self.now.flow.now.program) from.now ≡ true }
+        requires from_scopes { each_access (scope_in self.now.flow.now.program (top_routine self.now.frames.items)) from.now ≡ true }
+        requires fits { copy_fits (tables self.now.flow.now.program) (reached (tables self.now.flow.now.program) to.now) (reached (tables self.now.flow.now.program) from.now) ≡ true }
+        ensures safe { AreSafe self.now.flow.now.program self.now.frames.items (top_of self.now.frames.items) result }
+    {
+        let target = self.spot(to)?;
+        let source = self.spot(from)?;
+        let of_type = self.flow.program.type_of_access(to);
+        self.does(Change::Copy {
+            to: target,
+            from: source,
+            count: self.count_of(of_type),
+        })
+    }
+
+    /// The result of a function goes to the slot of the activation that called it.
+    fn return_from(&self, call: u32, at: u32) -> Decision<'a>
+        ensures safe { IfOk result (λ o. IfSome o (λ d. LandsAt self.now.flow.now.program self.now.frames.items (top_of self.now.frames.items - 1) d × (top_call self.now.frames.items ≡ Some call))) }
+    {
+        let Some(made) = self.top().call else {
+            return Ok(None);
+        };
+        if made != call {
+            return Ok(None);
+        }
+        let depth = self.frames.len() - 2;
+        match self.slot_of(call) {
+            None => self.goes_on(depth, Change::Nothing),
+            Some(slot) => {
+                let z = self.result(at)?;
+                let change = Change::Set {
+                    address: self.scalar_of(depth, slot),
+                    value: Some(z),
+                };
+                self.goes_on(depth, change)
+            }
+        }
+    }
+
+    /// The variable for the result of the call of an edge.
+    fn slot_of(&self, call: u32) -> Option<u32>
+        requires { call < length self.now.flow.now.edges }
+        ensures { result ≡ slot_at self.now.flow.now.edges call }
+    {
+        match &self.flow.edges()[call as usize].act {
+            Act::Call { slot, .. } => *slot,
+            _ => None,
+        }
+    }
+
+    /// The result of the latest activation, which must be defined at the exit.
+    fn result(&self, at: u32) -> Result<i32, Fault>
+        ensures number { IfOk result IsNumber }
+    {
+        let undefined = Fault {
+            kind: Kind::NoResult,
+            at,
+        };
+        match self.result_variable() {
+            Some(result) => {
+                let address = self.scalar_of(self.frames.len() - 1, result);
+                match self.used(address, at) {
+                    Ok(z) => Ok(z),
+                    Err(_) => Err(undefined),
+                }
+            }
+            None => Err(undefined),
+        }
+    }
+
+    /// The variable for the result of the latest activation's routine.
+    fn result_variable(&self) -> Option<u32>
+        ensures result_variable { IfSome result (IsOwn self.now.flow.now.program self.now.frames.items (top_of self.now.frames.items)) }
+    {
+        let flow = self.flow;
+        flow.program.routines.get(self.top().routine)?.result
+    }
+
+    fn test(&self, cond: &Expr, wanted: bool) -> Decision<'a>
+        requires numbers { each_expr (numbers_in self.now.flow.now.program) cond.now ≡ true }
+        requires types { is_of_host true (hosted (tables self.now.flow.now.program) cond.now) ≡ true }
+        requires scopes { each_expr (scope_in self.now.flow.now.program (top_routine self.now.frames.items)) cond.now ≡ true }
+        ensures safe { AreSafe self.now.flow.now.program self.now.frames.items (top_of self.now.frames.items) result }
+    {
+        if self.value(cond)? == i32::from(wanted) {
+            self.does(Change::Nothing)
+        } else {
+            Ok(None)
+        }
+    }
+
+    fn arm(&self, of: &Expr, consts: &[i32]) -> Decision<'a>
+        requires numbers { each_expr (numbers_in self.now.flow.now.program) of.now ≡ true }
+        requires types { (hosted (tables self.now.flow.now.program) of.now).fits ≡ true }
+        requires scopes { each_expr (scope_in self.now.flow.now.program (top_routine self.now.frames.items)) of.now ≡ true }
+        ensures safe { AreSafe self.now.flow.now.program self.now.frames.items (top_of self.now.frames.items) result }
+    {
+        if consts.contains(&self.value(of)?) {
+            self.does(Change::Nothing)
+        } else {
+            Ok(None)
+        }
+    }
+
+    /// Both bounds are checked after both are evaluated, where there is a turn.
+    fn enter(&self, control: u32, bound: u32, first: &Expr, down: bool, last: &Expr) -> Decision<'a>
+        requires first_numbers { each_expr (numbers_in self.now.flow.now.program) first.now ≡ true }
+        requires first_scopes { each_expr (scope_in self.now.flow.now.program (top_routine self.now.frames.items)) first.now ≡ true }
+        requires first_fits { (hosted (tables self.now.flow.now.program) first.now).fits ≡ true }
+        requires last_numbers { each_expr (numbers_in self.now.flow.now.program) last.now ≡ true }
+        requires last_scopes { each_expr (scope_in self.now.flow.now.program (top_routine self.now.frames.items)) last.now ≡ true }
+        requires last_fits { (hosted (tables self.now.flow.now.program) last.now).fits ≡ true }
+        requires control { control < length self.now.flow.now.program.vars }
+        requires control_seen { is_visible (tables self.now.flow.now.program) (top_routine self.now.frames.items) control ≡ true }
+        requires scalar { is_scalar (type_of_var (tables self.now.flow.now.program) control) ≡ true }
+        requires bound { bound < length self.now.flow.now.program.vars }
+        requires bound_seen { is_visible (tables self.now.flow.now.program) (top_routine self.now.frames.items) bound ≡ true }
+        requires bound_scalar { is_scalar (type_of_var (tables self.now.flow.now.program) bound) ≡ true }
+        ensures safe { AreSafe self.now.flow.now.program self.now.frames.items (top_of self.now.frames.items) result }
+    {
+        let x = self.value(first)?;
+        let y = self.value(last)?;
+        if !is_in_order(down, x, y) {
+            return Ok(None);
+        }
+        let of_type = self.flow.program.var_def(control).of_type;
+        let kind = Kind::ValueOutOfRange;
+        let x = checked(self.is_value_of(of_type, x), kind, first.first, x)?;
+        let y = checked(self.is_value_of(of_type, y), kind, last.first, y)?;
+        self.does(Change::Start {
+            control: self.address_of(control),
+            first: x,
+            bound: self.address_of(bound),
+            last: y,
+        })
+    }
+
+    fn bypass(&self, control: u32, first: &Expr, down: bool, last: &Expr) -> Decision<'a>
+        requires first_numbers { each_expr (numbers_in self.now.flow.now.program) first.now ≡ true }
+        requires first_scopes { each_expr (scope_in self.now.flow.now.program (top_routine self.now.frames.items)) first.now ≡ true }
+        requires first_fits { (hosted (tables self.now.flow.now.program) first.now).fits ≡ true }
+        requires last_numbers { each_expr (numbers_in self.now.flow.now.program) last.now ≡ true }
+        requires last_scopes { each_expr (scope_in self.now.flow.now.program (top_routine self.now.frames.items)) last.now ≡ true }
+        requires last_fits { (hosted (tables self.now.flow.now.program) last.now).fits ≡ true }
+        requires control { control < length self.now.flow.now.program.vars }
+        requires control_seen { is_visible (tables self.now.flow.now.program) (top_routine self.now.frames.items) control ≡ true }
+        requires scalar { is_scalar (type_of_var (tables self.now.flow.now.program) control) ≡ true }
+        ensures safe { AreSafe self.now.flow.now.program self.now.frames.items (top_of self.now.frames.items) result }
+    {
+        let x = self.value(first)?;
+        let y = self.value(last)?;
+        if is_in_order(down, x, y) {
+            return Ok(None);
+        }
+        self.undefine(control)
+    }
+
+    fn next_turn(&self, control: u32, bound: u32, down: bool, at: u32) -> Decision<'a>
+        requires control { control < length self.now.flow.now.program.vars }
+        requires control_seen { is_visible (tables self.now.flow.now.program) (top_routine self.now.frames.items) control ≡ true }
+        requires scalar { is_scalar (type_of_var (tables self.now.flow.now.program) control) ≡ true }
+        requires bound { bound < length self.now.flow.now.program.vars }
+        requires bound_seen { is_visible (tables self.now.flow.now.program) (top_routine self.now.frames.items) bound ≡ true }
+        requires bound_scalar { is_scalar (type_of_var (tables self.now.flow.now.program) bound) ≡ true }
+        ensures safe { AreSafe self.now.flow.now.program self.now.frames.items (top_of self.now.frames.items) result }
+    {
+        let address = self.address_of(control);
+        let x = self.used(address, at)?;
+        let y = self.used(self.address_of(bound), at)?;
+        if !comes_before(down, x, y) {
+            return Ok(None);
+        }
+        self.does(Change::Set {
+            address,
+            value: Some(next_value(down, x, y)),
+        })
+    }
+
+    /// Afterwards the control variable is undefined.
+    fn finish(&self, control: u32, bound: u32, down: bool, at: u32) -> Decision<'a>
+        requires control { control < length self.now.flow.now.program.vars }
+        requires control_seen { is_visible (tables self.now.flow.now.program) (top_routine self.now.frames.items) control ≡ true }
+        requires scalar { is_scalar (type_of_var (tables self.now.flow.now.program) control) ≡ true }
+        requires bound { bound < length self.now.flow.now.program.vars }
+        requires bound_seen { is_visible (tables self.now.flow.now.program) (top_routine self.now.frames.items) bound ≡ true }
+        requires bound_scalar { is_scalar (type_of_var (tables self.now.flow.now.program) bound) ≡ true }
+        ensures safe { AreSafe self.now.flow.now.program self.now.frames.items (top_of self.now.frames.items) result }
+    {
+        let x = self.used(self.address_of(control), at)?;
+        let y = self.used(self.address_of(bound), at)?;
+        if comes_before(down, x, y) {
+            return Ok(None);
+        }
+        self.undefine(control)
+    }
+
+    fn undefine(&self, var: u32) -> Decision<'a>
+        requires in_range { var < length self.now.flow.now.program.vars }
+        requires seen { is_visible (tables self.now.flow.now.program) (top_routine self.now.frames.items) var ≡ true }
+        requires scalar { is_scalar (type_of_var (tables self.now.flow.now.program) var) ≡ true }
+        ensures safe { AreSafe self.now.flow.now.program self.now.frames.items (top_of self.now.frames.items) result }
+    {
+        self.does(Change::Set {
+            address: self.address_of(var),
+            value: None,
+        })
+    }
+
+    fn read(&self, to: &Access) -> Decision<'a>
+        requires numbers { each_access (numbers_in self.now.flow.now.program) to.now ≡ true }
+        requires target { is_target (tables self.now.flow.now.program) false (reached (tables self.now.flow.now.program) to.now) ≡ true }
+        requires scopes { each_access (scope_in self.now.flow.now.program (top_routine self.now.frames.items)) to.now ≡ true }
+        ensures safe { AreSafe self.now.flow.now.program self.now.frames.items (top_of self.now.frames.items) result }
+    {
+        let address = self.spot(to)?;
+        let Some((number, rest)) = next_number(self.items) else {
+            return Err(Fault {
+                kind: Kind::NoNumber,
+                at: to.at,
+            });
+        };
+        let of_type = self.flow.program.type_of_access(to);
+        let fits = self.is_value_of(of_type, number);
+        let z = checked(fits, Kind::ValueOutOfRange, to.at, number)?;
+        Ok(Some(Deed::Lands(Effect {
+            depth: self.frames.len() - 1,
+            change: Change::Set {
+                address,
+                value: Some(z),
+            },
+            items: rest,
+            output: None,
+        })))
+    }
+
+    /// The value comes before the width.
+    fn write(&self, item: &'a WriteItem) -> Decision<'a>
+        requires numbers { each_item (numbers_in self.now.flow.now.program) item.now ≡ true }
+        requires types { item_fits (tables self.now.flow.now.program) item.now ≡ true }
+        requires scopes { each_item (scope_in self.now.flow.now.program (top_routine self.now.frames.items)) item.now ≡ true }
+        ensures safe { AreSafe self.now.flow.now.program self.now.frames.items (top_of self.now.frames.items) result }
+    {
+        let text = match &item.value {
+            WriteValue::Value(e) => self.text_of(e)?,
+            WriteValue::Text { bytes, .. } => Text::Bytes(bytes.as_slice()),
+        };
+        let width = match &item.width {
+            Some(width) => Some(self.width(width)?),
+            None => None,
+        };
+        self.lands(self.items, Some(Output { text, width }))
+    }
+
+    /// What is written of an expression.
+    fn text_of(&self, e: &Expr) -> Result<Text<'a>, Fault>
+        requires numbers { each_expr (numbers_in self.now.flow.now.program) e.now ≡ true }
+        requires types { (hosted (tables self.now.flow.now.program) e.now).fits ≡ true }
+        requires scopes { each_expr (scope_in self.now.flow.now.program (top_routine self.now.frames.items)) e.now ≡ true }
+    {
+        let z = self.value(e)?;
+        if self.is_boolean(e) {
+            Ok(Text::Truth(z != 0))
+        } else {
+            Ok(Text::Number(z))
+        }
+    }
+
+    /// Whether an expression is a Boolean; else it is an integer.
+    fn is_boolean(&self, e: &Expr) -> bool
+        requires numbers { each_expr (numbers_in self.now.flow.now.program) e.now ≡ true }
+        requires types { (hosted (tables self.now.flow.now.program) e.now).fits ≡ true }
+        ensures { result ≡ (hosted (tables self.now.flow.now.program) e.now).boolean }
+    {
+        let program = &self.flow.program;
+        match &e.form {
+            ExprForm::Const { boolean, .. } => *boolean,
+            ExprForm::Value(access) => self.has_booleans(program.type_of_access(access)),
+            ExprForm::Unary { op, .. } => gives_boolean(*op),
+            ExprForm::Binary { op, .. } => !matches!(
+                op,
+                BinOp::Add | BinOp::Sub | BinOp::Mul | BinOp::Div | BinOp::Mod
+            ),
+            ExprForm::Call { slot, .. } => self.has_booleans(program.var_def(*slot).of_type),
+        }
+    }
+
+    /// Whether the values of a scalar type are Booleans.
+    fn has_booleans(&self, of_type: u32) -> bool
+        requires { of_type < length self.now.flow.now.program.types }
+        ensures { result ≡ (hosted_by (slice_get self.now.flow.now.program.types of_type)).boolean }
+    {
+        match self.flow.program.type_def(of_type) {
+            TypeDef::Scalar { boolean, .. } => boolean,
+            TypeDef::Array { .. } => false,
+        }
+    }
+
+    fn width(&self, width: &Expr) -> Result<u16, Fault>
+        requires numbers { each_expr (numbers_in self.now.flow.now.program) width.now ≡ true }
+        requires types { (hosted (tables self.now.flow.now.program) width.now).fits ≡ true }
+        requires scopes { each_expr (scope_in self.now.flow.now.program (top_routine self.now.frames.items)) width.now ≡ true }
+    {
+        let z = self.value(width)?;
+        let z = checked(1 <= z && z <= 10000, Kind::WidthOutOfRange, width.first, z)?;
+        Ok(z.unsigned_abs() as u16)
+    }
+}
+
+/// Whether a `for` from x to y has a turn.
+fn is_in_order(down: bool, x: i32, y: i32) -> bool
+    ensures { result ≡ in_order down x y }
+{
+    if down { y <= x } else { x <= y }
+}
+
+/// Whether there is a turn after that with the value x.
+fn comes_before(down: bool, x: i32, y: i32) -> bool
+    ensures { result ≡ comes_before down x y }
+{
+    if down { y < x } else { x < y }
+}
+
+/// The value of the control variable x in the next turn of a `for` to y, which there is.
+fn next_value(down: bool, x: i32, y: i32) -> i32
+    requires number { IsNumber x }
+    requires last { IsNumber y }
+    requires before { comes_before down x y ≡ true }
+    ensures value { result ≡ stepped down x }
+    ensures number { IsNumber result }
+{
+    // `y` is beyond `x`, so that no step leaves the language's integers.
+    let _last = y;
+    if down { x - 1 } else { x + 1 }
+}
+
+/// Whether the result of the operator is a Boolean.
+fn gives_boolean(op: UnOp) -> bool
+    ensures { result ≡ unary_gives op }
+{
+    matches!(op, UnOp::Not | UnOp::Odd | UnOp::SuccBool | UnOp::PredBool)
+}
+
+/// The next number of the input, and the items after it. Line ends before it are dropped.
+fn next_number(items: &[Item]) -> Option<(i32, &[Item])>
+    ensures { option_map (λ t. record { number = t.0; rest = t.1.now }) result ≡ input.next_number items.now }
+{
+    let mut rest = items;
+    while let Some((item, others)) = rest.split_first() {
+        match *item {
+            Item::Number(z) => return Some((z, others)),
+            Item::Junk => return None,
+            Item::LineEnd => rest = others,
+        }
+    }
+    None
+}
+
+/// The items after the next line end.
+fn after_line(items: &[Item]) -> &[Item]
+    ensures { result.now ≡ input.after_line items.now }
+{
+    let mut rest = items;
+    while let Some((item, others)) = rest.split_first() {
+        rest = others;
+        if *item == Item::LineEnd {
+            break;
+        }
+    }
+    rest
+}

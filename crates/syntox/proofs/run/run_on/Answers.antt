@@ -1,0 +1,15 @@
+use Rattle.syntox.proofs.Owed.{source_of}
+use Rattle.syntox.proofs.run.run_on.Goals as goal
+
+pub returns-clause-run : goal.returns-clause-run
+returns-clause-run c = record {
+  source = c.args.text.now;
+  flow = c.args.flow.now;
+  has_flow = record { source = source_of c.args.text.now c.requires.source; is_flow = c.requires.flow };
+  bytes = c.args.input.now;
+  is_input = record { given = (λ known e. cc); within = c.requires.input };
+  ended = c.in_ok-ended.ended;
+  ends = c.in_ok-ended.ensures.bounded;
+  is_status = c.status_of-status.ensures;
+  is_text = c.in_ok-text.ensures;
+}

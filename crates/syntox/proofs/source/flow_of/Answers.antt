@@ -1,0 +1,26 @@
+use Rattle.std.proofs.Common.{sym, subst}
+use Rattle.syntox.proofs.Faults.{tree_of}
+use Rattle.syntox.specs.Source.{IsChecked}
+use Rattle.syntox.proofs.source.flow_of.Goals as goal
+
+pub returns-in-Err-clause-fault : goal.returns-in-Err-clause-fault
+returns-in-Err-clause-fault c = c.lexical.ensures.fault c.args.text.now c.in-Err.ensures.refused
+
+pub returns-in-Err-clause-place : goal.returns-in-Err-clause-place
+returns-in-Err-clause-place c = c.lexical.ensures.place c.args.text.now c.in-Err.ensures.refused
+
+pub returns-in-Err-check-clause-fault : goal.returns-in-Err-check-clause-fault
+returns-in-Err-check-clause-fault c =
+    c.checked.ensures.fault c.args.text.now c.in-Ok-parse.tree
+    (tree_of c.args.text.now c.deref.result.now c.in-Ok.tokens.items c.in-Ok-parse.tree c.deref.ensures.value c.in-Ok.ensures.tokens c.in-Ok-parse.ensures.value c.in-Ok-parse.ensures.grammar)
+    c.in-Err-check.ensures.fault
+
+pub returns-in-Err-check-clause-place : goal.returns-in-Err-check-clause-place
+returns-in-Err-check-clause-place c = c.checked.ensures.place c.args.text.now c.in-Err-check.ensures.fault
+
+pub returns-in-Ok-build-clause-flow : goal.returns-in-Ok-build-clause-flow
+returns-in-Ok-build-clause-flow c = record {
+  tree = c.in-Ok-parse.tree;
+  is_tree = tree_of c.args.text.now c.deref.result.now c.in-Ok.tokens.items c.in-Ok-parse.tree c.deref.ensures.value c.in-Ok.ensures.tokens c.in-Ok-parse.ensures.value c.in-Ok-parse.ensures.grammar;
+  is_checked = subst IsChecked (sym c.in-Ok-build.ensures.program) (record { controls = c.in-Ok-check.ensures.controls });
+}
