@@ -9,7 +9,7 @@ use Rattle.pas_parser.specs.declared.fault.ParseFault.{ParseFault}
 use Rattle.pas_parser.specs.declared.fault.ParseFault.TheVariants.{NoRule, TooDeep, Memory as NoMemory}
 use Rattle.pas_tree.specs.declared.block.Tree.{Tree}
 use Rattle.pas_program.specs.Checked.{tables}
-use Rattle.pas_program.specs.Labels.{ControlsAreLocal}
+use Rattle.pas_program.specs.Labels.{AssertsStand, ConstantsDiffer, ControlsAreLocal, LabelsStand}
 use Rattle.pas_program.specs.declared.program.Program.{Program}
 use Rattle.pas_check.specs.Fault.{IsWithin}
 use Rattle.pas_check.specs.declared.fault.CheckFault.TheVariants.{Wrong}
@@ -31,6 +31,9 @@ pub record IsTreeOf (text : List ℕ) (tree : Tree) : Type 0 where
 -- What is known of a program that the checker answers, beside what its type says: that its numbers, types and scopes fit.
 pub record IsChecked (checked : Program) : Type 0 where
   pub controls : ControlsAreLocal (tables checked) checked.routines
+  pub labels : LabelsStand checked.routines
+  pub constants : ConstantsDiffer checked.routines
+  pub assertions : AssertsStand checked.routines checked.asserts
 
 -- The flow of a source: the source has a tree, and the flow is of a program that the checker answered. That this is the
 -- program of that tree is not told here.
