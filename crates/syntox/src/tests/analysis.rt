@@ -1,5 +1,5 @@
 //! `analyse`.
-use super::{PLAIN, Setting, answer_to};
+use super::{PLAIN, Setting, USAGE, answer_to};
 use crate::status::number_of;
 use std::test::Fail;
 
@@ -53,7 +53,7 @@ fn answers(rt: HostRuntime) -> Result<(), Fail> {
     let missing = "missing.pas: cannot be read\n";
     let refused = "e.pas: not of the first form\n";
     let unread = "first.pas: cannot be read\n";
-    let cases: [(Setting, u8, &str, &str); 12] = [
+    let cases: [(Setting, u8, &str, &str); 13] = [
         (ANALYSE, 0, FIRST_TEXT, ""),
         (
             Setting {
@@ -145,6 +145,15 @@ fn answers(rt: HostRuntime) -> Result<(), Fail> {
             0,
             FIRST_TEXT,
             "",
+        ),
+        (
+            Setting {
+                words: &[],
+                ..PLAIN
+            },
+            2,
+            "",
+            USAGE,
         ),
         (
             Setting {

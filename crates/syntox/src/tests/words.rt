@@ -37,8 +37,7 @@ fn served(rt: HostRuntime) -> Result<(), Fail> {
 
 #[test]
 fn refused(rt: HostRuntime) -> Result<(), Fail> {
-    let cases: [&[&str]; 27] = [
-        &[],
+    let cases: [&[&str]; 26] = [
         &[""],
         &["analyse"],
         &["run"],
