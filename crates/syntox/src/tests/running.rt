@@ -42,7 +42,7 @@ const FILES: [(&str, &str); 19] = [
     ("open.pas", "program p; begin {% true"),
     (
         "label.pas",
-        "PROGRAM R15; { mixed *) LABEL 10000;\nBEGIN 10000: END.\n",
+        "PROGRAM MIX; { mixed *) LABEL 10000;\nBEGIN 10000: END.\n",
     ),
 ];
 
