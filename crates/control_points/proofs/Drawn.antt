@@ -81,6 +81,42 @@ same_goto s t e = cc
 same_return : (j k : ℕ) → act.Return j ≡ act.Return k → j ≡ k
 same_return j k e = cc
 
+no_call : (a : Act) (s : ℕ) → callee_of a ≡ Some s → is_return a ≡ true → ⊥
+no_call act.Skip s c h = true≢false (sym h)
+no_call (act.Assign target value) s c h = true≢false (sym h)
+no_call (act.Copy target source) s c h = true≢false (sym h)
+no_call (act.Call routine actuals slot at) s c h = true≢false (sym h)
+no_call (act.Return call) s c h = none-some s c
+no_call (act.Goto routine) s c h = true≢false (sym h)
+no_call (act.Test cond wanted) s c h = true≢false (sym h)
+no_call (act.Arm selector constants) s c h = true≢false (sym h)
+no_call (act.Enter control bound first down last) s c h = true≢false (sym h)
+no_call (act.Bypass control bound first down last) s c h = true≢false (sym h)
+no_call (act.Next control bound down) s c h = true≢false (sym h)
+no_call (act.Finish control bound down) s c h = true≢false (sym h)
+no_call (act.Read target) s c h = true≢false (sym h)
+no_call act.DropLine s c h = true≢false (sym h)
+no_call (act.Write item) s c h = true≢false (sym h)
+no_call act.EndLine s c h = true≢false (sym h)
+
+pub local_stays : (a : Act) → goes_on_after a ≡ true → is_return a ≡ false
+local_stays act.Skip h = refl
+local_stays (act.Assign target value) h = refl
+local_stays (act.Copy target source) h = refl
+local_stays (act.Call routine actuals slot at) h = refl
+local_stays (act.Return call) h = absurd (true≢false (sym h))
+local_stays (act.Goto routine) h = refl
+local_stays (act.Test cond wanted) h = refl
+local_stays (act.Arm selector constants) h = refl
+local_stays (act.Enter control bound first down last) h = refl
+local_stays (act.Bypass control bound first down last) h = refl
+local_stays (act.Next control bound down) h = refl
+local_stays (act.Finish control bound down) h = refl
+local_stays (act.Read target) h = refl
+local_stays act.DropLine h = refl
+local_stays (act.Write item) h = refl
+local_stays act.EndLine h = refl
+
 module _ (program : Program) (points : List Point) where
   scopes_at : (r p : ℕ) (a : Act) → routine_at points p ≡ Some r → each_act (scope_in program r) a ≡ true → (q : Point) → slice_get points p ≡ Some q → each_act (scope_in program q.routine) a ≡ true
   scopes_at r p a own fits q e = subst (λ n. each_act (scope_in program n) a ≡ true) (sym (own_routine r q (slice_get points p) e own)) fits
@@ -98,6 +134,7 @@ module _ (program : Program) (points : List Point) where
     inside = λ h. to ∙ sym own;
     outside = λ s e. absurd (true≢false (sym on ∙ ap goes_on_after e));
     returns = no_exit p (is_return a) inner;
+    returned = λ h. absurd (true≢false (sym h ∙ local_stays a on));
   }
 
   pub goto_fits : (r s p q : ℕ) → routine_at points p ≡ Some r → is_exit_at (kind_at points p) ≡ false → routine_at points q ≡ Some s → ActFits program r (act.Goto s) → EdgeFits program points (record { from = p; act = act.Goto s; to = q })
@@ -110,6 +147,7 @@ module _ (program : Program) (points : List Point) where
     inside = λ h. absurd (true≢false (sym h));
     outside = λ t e. subst (λ n. routine_at points q ≡ Some n) (same_goto s t e) to;
     returns = no_exit p (is_return (act.Goto s)) inner;
+    returned = λ h. absurd (true≢false (sym h));
   }
 
   -- of a call, which leads to an entry
@@ -123,11 +161,12 @@ module _ (program : Program) (points : List Point) where
     inside = λ h. absurd (stays a s calls h);
     outside = λ t e. absurd (none-some s (sym (ap callee_of e) ∙ calls));
     returns = no_exit p (is_return a) inner;
+    returned = λ h. absurd (no_call a s calls h);
   }
 
   -- of a return
-  pub return_fits : (p q j : ℕ) → p < length points → q < length points → EdgeFits program points (record { from = p; act = act.Return j; to = q })
-  return_fits p q j source target = record {
+  pub return_fits : (p q j : ℕ) → p < length points → q < length points → kind_at points p ≡ Some kind.Exit → EdgeFits program points (record { from = p; act = act.Return j; to = q })
+  return_fits p q j source target exit = record {
     source = source;
     target = target;
     numbers = refl;
@@ -136,6 +175,7 @@ module _ (program : Program) (points : List Point) where
     inside = λ h. absurd (true≢false (sym h));
     outside = λ t e. absurd (no_goto j t e);
     returns = λ e. refl;
+    returned = λ h. exit;
   }
 
 -- ---- edges at the end of a list
@@ -348,24 +388,6 @@ local_plain act.DropLine h = refl
 local_plain (act.Write item) h = refl
 local_plain act.EndLine h = refl
 
-pub local_stays : (a : Act) → goes_on_after a ≡ true → is_return a ≡ false
-local_stays act.Skip h = refl
-local_stays (act.Assign target value) h = refl
-local_stays (act.Copy target source) h = refl
-local_stays (act.Call routine actuals slot at) h = refl
-local_stays (act.Return call) h = absurd (true≢false (sym h))
-local_stays (act.Goto routine) h = refl
-local_stays (act.Test cond wanted) h = refl
-local_stays (act.Arm selector constants) h = refl
-local_stays (act.Enter control bound first down last) h = refl
-local_stays (act.Bypass control bound first down last) h = refl
-local_stays (act.Next control bound down) h = refl
-local_stays (act.Finish control bound down) h = refl
-local_stays (act.Read target) h = refl
-local_stays act.DropLine h = refl
-local_stays (act.Write item) h = refl
-local_stays act.EndLine h = refl
-
 -- ---- what the walk adds at a point of a routine
 
 module _ (program : Program) (points : List Point) (r entry exit : ℕ) (block : IsBlock points r entry exit) where
@@ -392,7 +414,7 @@ module _ (program : Program) (points : List Point) (r entry exit : ℕ) (block :
       record {
         wired = wired_pair program points edges (record { from = p; act = a; to = first }) (record { from = last; act = act.Return (length edges); to = back }) old.wired
             (call_fits program points r p first a own (source_inner points r entry exit p block low high) (point_within points first s callee.entry_own) fits s calls)
-            (return_fits program points last back (length edges) (point_within points last s callee.exit_own) (point_within points back r next))
+            (return_fits program points last back (length edges) (point_within points last s callee.exit_own) (point_within points back r next) callee.exit_kind)
             (record { routine = s; calls = calls; returns = refl; entry = callee.entry_kind; entered = callee.entry_own; exit = callee.exit_kind; exited = callee.exit_own; resumed = next ∙ sym own });
         judged = old.judged;
       }

@@ -4,8 +4,10 @@ pub mod CallsOf
 pub mod Drawn
 pub mod Examples
 pub mod Fitting
+pub mod Followed
 pub mod Inside
 pub mod Labelling
+pub mod Laying
 pub mod Left
 pub mod Levels
 pub mod Listed

@@ -5,7 +5,7 @@ use Rattle.control_points.specs.declared.check.Check.{Check}
 use Rattle.control_points.specs.declared.edge.Edge.{Edge}
 use Rattle.control_points.specs.declared.judging.Judge.{Judge}
 use Rattle.control_points.specs.declared.numbering.Mark.{Mark}
-use Rattle.control_points.specs.declared.wiring.Scene.{Scene}
+use Rattle.control_points.specs.declared.scene.Scene.{Scene}
 use Rattle.control_points.specs.Checking.{Faults}
 use Rattle.control_points.specs.Drawing.{points_in}
 use Rattle.control_points.specs.Judging.{checks_at, judged}

@@ -51,7 +51,7 @@ routine_next routines zs k d order within is b =
     sizes_both zs order (routine_sizes d) (routines_sizes (drop (k + 1) routines)) (subst (λ xs. Begins xs (drop order zs)) left b)
 
 -- from the entry to the exit
-owned : (points : List Point) (r entry exit : ℕ) → IsBlock points r entry exit → (p : ℕ) → entry ≤ p → p ≤ exit → routine_at points p ≡ Some r
+pub owned : (points : List Point) (r entry exit : ℕ) → IsBlock points r entry exit → (p : ℕ) → entry ≤ p → p ≤ exit → routine_at points p ≡ Some r
 owned points r entry exit b p low high =
     elim (cases_lt entry p) [
       | inl after ↦ elim (cases_lt p exit) [ inl before ↦ b.own p after before | inr last ↦ subst (λ n. routine_at points n ≡ Some r) (omega arith) b.exit_own ]

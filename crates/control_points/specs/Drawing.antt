@@ -2,12 +2,18 @@
 use Rattle.std.specs.Prelude.{ℕ, ◌+◌, ◌<◌, ◌≤◌, List, drop}
 use Rattle.control_points.specs.declared.graph.Graph.{Graph}
 use Rattle.control_points.specs.declared.point.Point.{Point}
-use Rattle.control_points.specs.declared.wiring.Scene.{Scene}
+use Rattle.control_points.specs.declared.scene.Scene.{Scene}
 use Rattle.control_points.specs.declared.wiring.Stand.{Stand}
+use Rattle.control_points.specs.Edges.{plan_from}
+use Rattle.control_points.specs.Pieces.{Plan}
 use Rattle.control_points.specs.Wired.{IsGraph, Begins, points_of}
 
 abbrev pub points_in : Scene → List Point
 points_in s = points_of s.numbering.now.marks
+
+-- what the numbers in the scene stand for
+abbrev pub plan_in : Scene → Plan
+plan_in s = plan_from s.program.now s.numbering.now.marks s.numbering.now.entries
 
 -- what is drawn fits, and no check is of a point behind n
 abbrev pub IsDrawn : Scene → Graph → ℕ → Type 0

@@ -5,6 +5,7 @@ pub mod Calls
 pub mod Chart
 pub mod Checking
 pub mod Drawing
+pub mod Edges
 pub mod Evaluation
 pub mod Extents
 pub mod Finding
@@ -19,6 +20,7 @@ pub mod Listing
 pub mod Marks
 pub mod Matching
 pub mod Output
+pub mod Pieces
 pub mod Runs
 pub mod Scenes
 pub mod Sites

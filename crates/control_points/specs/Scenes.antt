@@ -1,5 +1,5 @@
 -- What the second walk rests on, and what holds of the graph while it goes on.
-use Rattle.std.specs.Prelude.{◌≡◌, ℕ, suc, ◌-◌, ◌<◌, List, length, nat_eq, Some, slice_get, slice_index}
+use Rattle.std.specs.Prelude.{◌≡◌, ℕ, suc, ◌-◌, ◌<◌, List, length, nat_eq, Some, slice_get, slice_index, slice_range}
 use Rattle.std.specs.HashMap.{get}
 use Rattle.pas_program.specs.declared.expr.Access.{Access}
 use Rattle.pas_program.specs.declared.expr.Expr.{Expr}
@@ -14,11 +14,16 @@ use Rattle.control_points.specs.declared.numbering.Mark.{Mark}
 use Rattle.control_points.specs.declared.point.Point.{Point}
 use Rattle.control_points.specs.Calls.{CallSite, Sites}
 use Rattle.control_points.specs.Fits.{routine_at}
+use Rattle.control_points.specs.Labelled.{label_in}
 use Rattle.control_points.specs.Wired.{ActFits, AreBlocks, points_of}
 
 -- a label that is found is before a statement of its routine
 pub record LabelsLead (points : List Point) (labels : List Labels) : Type 0 where
   pub leads : (s : ℕ) (t : Labels) (n p : ℕ) → slice_get labels s ≡ Some t → get nat_eq t.points n ≡ Some p → routine_at points p ≡ Some s
+
+-- the labels of each routine are those of its points
+pub record LabelsAre (marks : List Mark) (entries : List ℕ) (labels : List Labels) : Type 0 where
+  pub each : (r : ℕ) (t : Labels) → slice_get labels r ≡ Some t → (n : ℕ) → get nat_eq t.points n ≡ label_in (slice_index entries r) (slice_range marks (slice_index entries r) (slice_index entries (suc r))) n
 
 -- the routine r with its entry and its exit, among the points of all
 pub record IsPlaced (program : Program) (marks : List Mark) (entries : List ℕ) (labels : List Labels) (r entry exit : ℕ) : Type 0 where
@@ -27,6 +32,7 @@ pub record IsPlaced (program : Program) (marks : List Mark) (entries : List ℕ)
   pub entry_is : entry ≡ slice_index entries r
   pub exit_is : exit ≡ slice_index entries (suc r) - 1
   pub tables : length labels ≡ length program.routines
+  pub labelled : LabelsAre marks entries labels
   pub jumps : LabelsLead (points_of marks) labels
 
 abbrev pub call_act : CallSite → Act

@@ -33,6 +33,7 @@ pub record EdgeFits (program : Program) (points : List Point) (e : Edge) : Type 
   pub inside : goes_on_after e.act ≡ true → routine_at points e.to ≡ routine_at points e.from
   pub outside : (r : ℕ) → e.act ≡ act.Goto r → routine_at points e.to ≡ Some r
   pub returns : kind_at points e.from ≡ Some kind.Exit → is_return e.act ≡ true
+  pub returned : is_return e.act ≡ true → kind_at points e.from ≡ Some kind.Exit
 
 pub record IsWired (program : Program) (points : List Point) (edges : List Edge) : Type 0 where
   pub each : (k : ℕ) (e : Edge) → slice_get edges k ≡ Some e → EdgeFits program points e

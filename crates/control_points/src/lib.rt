@@ -8,6 +8,7 @@
 //! a byte offset from 0 into the source.
 #![tactic(auto)]
 
+mod actions;
 mod assembly;
 mod calls;
 mod check;
@@ -22,6 +23,7 @@ mod labels;
 mod laws;
 mod numbering;
 mod point;
+mod scene;
 mod wiring;
 
 pub use assembly::build;

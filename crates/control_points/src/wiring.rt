@@ -7,39 +7,30 @@ ghost use Rattle.pas_program.specs.Each.{all_true, true_if_some, arm_of, each_st
 ghost use Rattle.pas_program.specs.Scopes.{is_outermost};
 ghost use Rattle.pas_program.specs.Typed.{statement_types_fit, arm_types, hosted};
 ghost use Rattle.pas_program.specs.Types.{in_host};
-ghost use Rattle.control_points.specs.Called.{own_calls, site_of, sites_of};
+ghost use Rattle.pas_program.specs.declared.statement.Body.TheViews.{out-Body};
+ghost use Rattle.control_points.specs.Called.{own_calls};
 ghost use Rattle.control_points.specs.Calls.{expr_calls};
+ghost use Rattle.control_points.specs.Checking.{assert_checks};
+ghost use Rattle.control_points.specs.Edges.{arms_from, checks_of, edges_of, in_order, inner_piece, laid_arm, laid_body, laid_statement, loop_piece, own_piece, routine_piece, second_piece, statement_piece, until_piece};
 ghost use Rattle.control_points.specs.Extents as extents;
-ghost use Rattle.control_points.specs.Leading.{goes_on_after};
-ghost use Rattle.control_points.specs.Marks.{routines_marks, second_or, starts};
 ghost use Rattle.control_points.specs.Fits.{ChecksFit};
-ghost use Rattle.control_points.specs.Scenes.{IsPlaced, LabelsLead, SitesFit, ReadsFit, WritesFit, ArmsFit, call_act};
+ghost use Rattle.control_points.specs.Marks.{routines_marks, second_or, starts};
+ghost use Rattle.control_points.specs.Pieces as pieces;
+ghost use Rattle.control_points.specs.Pieces.{IsFollowedBy, both, judged};
+ghost use Rattle.control_points.specs.Scenes.{LabelsLead, LabelsAre, SitesFit, ArmsFit};
 ghost use Rattle.control_points.specs.Wired.{ActFits, IsWired, points_of};
 ghost use Rattle.control_points.specs.declared.edge.Act.TheVariants as acts;
 
-use crate::calls::{CallSite, calls_in_access, calls_in_expr, calls_in_item, own_calls};
-use crate::copy::{copy_access, copy_actuals, copy_expr, copy_item};
+use crate::actions::Turn;
+use crate::calls::{calls_in_expr, own_calls};
 use crate::edge::Act;
 use crate::graph::Graph;
-use crate::judging::Judge;
 use crate::labels::Labels;
 use crate::numbering::Numbering;
-use pas_program::{Access, Actual, Arm, Body, Expr, Program, Routine, Statement, WriteItem};
-use sqlite_items::{Boxed, Items};
+use crate::scene::Scene;
+use pas_program::{Arm, Body, Expr, Program, Routine, Statement};
+use sqlite_items::Boxed;
 use std::alloc::{AllocError, Global};
-
-/// The routine that the walk is in, and what it looks up.
-#[derive(Drop)]
-pub struct Scene<'a> {
-    pub alloc: Global,
-    pub program: &'a Program,
-    pub numbering: &'a Numbering,
-    pub labels: &'a [Labels],
-    pub routine: u32,
-    pub entry: u32,
-    pub exit: u32,
-    ghost placed: { IsPlaced program.now numbering.now.marks numbering.now.entries labels.now routine entry exit },
-}
 
 /// Where a statement stands: its place in the order of all statements, the point before it, and the point that follows it.
 #[derive(Clone, Copy)]
@@ -69,8 +60,11 @@ pub fn wire(
     requires sizes { numbering.now.sizes ≡ extents.routines_sizes program.now.routines }
     requires entries { numbering.now.entries ≡ starts 0 0 program.now.routines }
     requires tables { length labels.now ≡ length program.now.routines }
+    requires labelled { LabelsAre numbering.now.marks numbering.now.entries labels.now }
     requires jumps { LabelsLead (points_of numbering.now.marks) labels.now }
     ensures wired { IfOk result (λ g. IsWired program.now (points_of numbering.now.marks) g.edges) }
+    ensures edges { IfOk result (λ g. g.edges ≡ edges_of program.now) }
+    ensures checks { IfOk result (λ g. g.checks ≡ checks_of program.now) }
     ensures judged { IfOk result (λ g. ChecksFit (points_of numbering.now.marks) g.checks) }
 {
     let mut graph = Graph::new(alloc);
@@ -93,69 +87,10 @@ pub fn wire(
 }
 
 impl<'a> Scene<'a> {
-    ghost use Rattle.control_points.specs.Drawing.{IsDrawn, SizesAt, StandsAt, points_in};
-    ghost use Rattle.control_points.specs.Fits.{routine_at};
-    ghost use Rattle.control_points.specs.Wired.{IsBlock};
-
-    fn judge(&self, point: u32) -> Judge<'a>
-        ensures program { result.program.now ≡ self.now.program.now }
-        ensures point { result.point ≡ point }
-    {
-        Judge {
-            program: self.program,
-            point,
-        }
-    }
-
-    /// How many points the statement has.
-    fn size(&self, order: usize) -> u32
-        requires { order < length self.now.numbering.now.sizes }
-        ensures { result ≡ slice_index self.now.numbering.now.sizes order }
-    {
-        self.numbering.sizes.as_slice()[order]
-    }
-
-    fn entry_of(&self, routine: u32) -> u32
-        requires { routine < length self.now.program.now.routines }
-        ensures { result ≡ slice_index self.now.numbering.now.entries routine }
-    {
-        self.numbering.entries.as_slice()[routine as usize]
-    }
-
-    fn exit_of(&self, routine: u32) -> u32
-        requires { routine < length self.now.program.now.routines }
-        ensures { result ≡ slice_index self.now.numbering.now.entries (suc routine) - 1 }
-    {
-        self.numbering.entries.as_slice()[routine as usize + 1] - 1
-    }
-
-    /// An edge that stays in the routine.
-    fn edge(&self, from: u32, act: Act, to: u32, graph: &mut Graph) -> Result<(), AllocError>
-        requires low { self.now.entry ≤ from }
-        requires high { from < self.now.exit }
-        requires next_low { self.now.entry < to }
-        requires next_high { to ≤ self.now.exit }
-        requires fits { ActFits self.now.program.now self.now.routine act }
-        requires local { goes_on_after act ≡ true }
-        ensures { (n : ℕ) → IsDrawn self.now graph.old n → OnOk result (IsDrawn self.now graph.new n) }
-    {
-        graph.edge(from, act, to)
-    }
-
-    /// The point before the statement with the label. In a checked program there is one; a label that stands nowhere
-    /// leads to the exit.
-    fn label(&self, routine: u32, number: u32) -> u32
-        requires { routine < length self.now.program.now.routines }
-        ensures { routine_at (points_in self.now) result ≡ Some routine }
-    {
-        match self.labels[routine as usize].points.get(&number) {
-            Some(point) => *point,
-            None => self.exit_of(routine),
-        }
-    }
+    ghost use Rattle.control_points.specs.Drawing.{IsDrawn, SizesAt, StandsAt, plan_in};
 
     /// The statement part of the routine. Gives the order of the first statement behind it.
-    fn block(&self, routine: &Routine, order: usize, graph: &mut Graph) -> Result<usize, AllocError>
+    pub fn block(&self, routine: &Routine, order: usize, graph: &mut Graph) -> Result<usize, AllocError>
         requires outermost { is_outermost routine.now.body ≡ true }
         requires numbers { each_statement (numbers_in self.now.program.now) routine.now.body ≡ true }
         requires types { statement_types_fit (tables self.now.program.now) routine.now.body ≡ true }
@@ -165,6 +100,7 @@ impl<'a> Scene<'a> {
         requires graph { IsDrawn self.now graph.old self.now.entry }
         ensures order { IfOk result (λ k. k ≡ order + length (extents.routine_sizes routine.now)) }
         ensures graph { OnOk result (IsDrawn self.now graph.new (self.now.exit + 1)) }
+        ensures exact { OnOk result (IsFollowedBy graph.old graph.new (routine_piece (plan_in self.now) self.now.routine routine.now)) }
     {
         match &routine.body.body {
             Body::Begin { body, end } => {
@@ -183,6 +119,7 @@ impl<'a> Scene<'a> {
         }
     }
 
+    /// Statements one after another. Gives the order of the statement behind them.
     #[cycle(wire)]
     fn sequence(
         &self,
@@ -198,6 +135,7 @@ impl<'a> Scene<'a> {
         requires graph { IsDrawn self.now graph.old stand.here }
         ensures order { IfOk result (λ k. k ≡ stand.order + length (extents.statements_extent body.now).sizes) }
         ensures graph { OnOk result (IsDrawn self.now graph.new (stand.here + (extents.statements_extent body.now).points)) }
+        ensures exact { OnOk result (IsFollowedBy graph.old graph.new (in_order (plan_in self.now) (map (laid_statement (plan_in self.now)) body.now) stand.here stand.next)) }
     {
         let mut order = stand.order;
         let mut here = stand.here;
@@ -221,6 +159,7 @@ impl<'a> Scene<'a> {
         requires graph { IsDrawn self.now graph.old stand.here }
         ensures order { IfOk result (λ k. k ≡ stand.order + length (extents.statement_extent s.now).sizes) }
         ensures graph { OnOk result (IsDrawn self.now graph.new (stand.here + (extents.statement_extent s.now).points)) }
+        ensures exact { OnOk result (IsFollowedBy graph.old graph.new (statement_piece (plan_in self.now) s.now stand.here stand.next)) }
     {
         let here = self.begin(s, stand, graph)?;
         self.act(s, here, stand, graph)?;
@@ -236,65 +175,11 @@ impl<'a> Scene<'a> {
         requires graph { IsDrawn self.now graph.old stand.here }
         ensures here { IfOk result (λ p. p ≡ stand.here + length (own_calls s.now.body)) }
         ensures graph { IfOk result (λ p. IsDrawn self.now graph.new p) }
+        ensures exact { OnOk result (IsFollowedBy graph.old graph.new (both (judged stand.here (assert_checks self.now.program.now.asserts s.now.asserts)) (pieces.calls (plan_in self.now) (own_calls s.now.body) stand.here))) }
     {
         self.assertions(s.asserts.as_slice(), stand.here, graph)?;
         let sites = own_calls(self.alloc, &s.body)?;
         self.calls(sites.as_slice(), stand.here, graph)
-    }
-
-    fn assertions(&self, listed: &[u32], here: u32, graph: &mut Graph) -> Result<(), AllocError>
-        requires low { self.now.entry < here }
-        requires high { here < self.now.exit }
-        requires graph { IsDrawn self.now graph.old here }
-        ensures { OnOk result (IsDrawn self.now graph.new here) }
-    {
-        self.judge(here).assertions(listed, &mut graph.checks)
-    }
-
-    /// The function calls of an action from a point. Gives the point to which the last one returns.
-    fn calls(&self, sites: &[CallSite<'_>], from: u32, graph: &mut Graph) -> Result<u32, AllocError>
-        requires fits { SitesFit self.now.program.now self.now.routine (sites_of sites.now) }
-        requires low { self.now.entry < from }
-        requires room { from + length sites.now < self.now.exit }
-        requires graph { IsDrawn self.now graph.old from }
-        ensures point { IfOk result (λ p. p ≡ from + length sites.now) }
-        ensures graph { IfOk result (λ p. IsDrawn self.now graph.new p) }
-    {
-        let mut here = from;
-        for site in sites {
-            self.call(site, here, here + 1, graph)?;
-            here += 1;
-        }
-        Ok(here)
-    }
-
-    /// A call from a point that returns to the point `back`.
-    fn call(
-        &self,
-        site: &CallSite<'_>,
-        from: u32,
-        back: u32,
-        graph: &mut Graph,
-    ) -> Result<(), AllocError>
-        requires fits { ActFits self.now.program.now self.now.routine (call_act (site_of site.now)) }
-        requires low { self.now.entry < from }
-        requires high { from < self.now.exit }
-        requires back_low { self.now.entry < back }
-        requires back_high { back ≤ self.now.exit }
-        requires graph { IsDrawn self.now graph.old from }
-        ensures { OnOk result (IsDrawn self.now graph.new (from + 1)) }
-    {
-        self.judge(from)
-            .passing(site.routine, site.actuals, &mut graph.checks)?;
-        let act = Act::Call {
-            routine: site.routine,
-            actuals: copy_actuals(self.alloc, site.actuals)?,
-            slot: site.slot,
-            at: site.at,
-        };
-        let entry = self.entry_of(site.routine);
-        let exit = self.exit_of(site.routine);
-        graph.call(from, act, entry, exit, back)
     }
 
     /// The checks and edges of the action that leaves the point `here`, to which the last of its calls returned. The
@@ -313,7 +198,8 @@ impl<'a> Scene<'a> {
         requires sizes { SizesAt self.now stand.order (extents.statement_extent s.now).sizes }
         requires here { here ≡ stand.here + length (own_calls s.now.body) }
         requires graph { IsDrawn self.now graph.old here }
-        ensures { OnOk result (IsDrawn self.now graph.new (here + 1 + extents.action_points s.now.body)) }
+        ensures graph { OnOk result (IsDrawn self.now graph.new (here + 1 + extents.action_points s.now.body)) }
+        ensures exact { OnOk result (IsFollowedBy graph.old graph.new (own_piece (plan_in self.now) (laid_body (plan_in self.now) (out-Body s.now.body)) here stand.next)) }
     {
         match &s.body {
             Body::Empty => self.skip(here, stand.next, graph),
@@ -377,6 +263,7 @@ impl<'a> Scene<'a> {
         requires graph { IsDrawn self.now graph.old (here + 1 + extents.action_points s.now.body) }
         ensures order { IfOk result (λ k. k ≡ stand.order + length (extents.statement_extent s.now).sizes) }
         ensures graph { OnOk result (IsDrawn self.now graph.new (stand.here + (extents.statement_extent s.now).points)) }
+        ensures exact { OnOk result (IsFollowedBy graph.old graph.new (inner_piece (plan_in self.now) (laid_body (plan_in self.now) (out-Body s.now.body)) here stand.here stand.next)) }
     {
         let order = stand.order + 1;
         let first = here + 1;
@@ -445,240 +332,6 @@ impl<'a> Scene<'a> {
         }
     }
 
-    fn skip(&self, here: u32, next: u32, graph: &mut Graph) -> Result<(), AllocError>
-        requires low { self.now.entry ≤ here }
-        requires high { here < self.now.exit }
-        requires next_low { self.now.entry < next }
-        requires next_high { next ≤ self.now.exit }
-        requires graph { IsDrawn self.now graph.old here }
-        ensures { OnOk result (IsDrawn self.now graph.new (here + 1)) }
-    {
-        self.edge(here, Act::Skip, next, graph)
-    }
-
-    /// The selector of a `case`.
-    fn selector(&self, of: &Expr, here: u32, graph: &mut Graph) -> Result<(), AllocError>
-        requires low { self.now.entry < here }
-        requires high { here < self.now.exit }
-        requires graph { IsDrawn self.now graph.old here }
-        ensures { OnOk result (IsDrawn self.now graph.new (here + 1)) }
-    {
-        self.judge(here).selector(of, &mut graph.checks)
-    }
-
-    fn assignment(
-        &self,
-        to: &Access,
-        value: &Expr,
-        here: u32,
-        next: u32,
-        graph: &mut Graph,
-    ) -> Result<(), AllocError>
-        requires low { self.now.entry < here }
-        requires high { here < self.now.exit }
-        requires next_low { self.now.entry < next }
-        requires next_high { next ≤ self.now.exit }
-        requires fits { ActFits self.now.program.now self.now.routine (acts.Assign to.now value.now) }
-        requires graph { IsDrawn self.now graph.old here }
-        ensures { OnOk result (IsDrawn self.now graph.new (here + 1)) }
-    {
-        self.judge(here).assignment(to, value, &mut graph.checks)?;
-        let to = copy_access(self.alloc, to)?;
-        let value = copy_expr(self.alloc, value)?;
-        self.edge(here, Act::Assign { to, value }, next, graph)
-    }
-
-    fn copying(
-        &self,
-        to: &Access,
-        from: &Access,
-        here: u32,
-        next: u32,
-        graph: &mut Graph,
-    ) -> Result<(), AllocError>
-        requires low { self.now.entry < here }
-        requires high { here < self.now.exit }
-        requires next_low { self.now.entry < next }
-        requires next_high { next ≤ self.now.exit }
-        requires fits { ActFits self.now.program.now self.now.routine (acts.Copy to.now from.now) }
-        requires graph { IsDrawn self.now graph.old here }
-        ensures { OnOk result (IsDrawn self.now graph.new (here + 1)) }
-    {
-        self.judge(here).copying(to, from, &mut graph.checks)?;
-        let to = copy_access(self.alloc, to)?;
-        let from = copy_access(self.alloc, from)?;
-        self.edge(here, Act::Copy { to, from }, next, graph)
-    }
-
-    /// The call of a procedure.
-    fn procedure(
-        &self,
-        routine: u32,
-        actuals: &[Actual],
-        at: u32,
-        here: u32,
-        next: u32,
-        graph: &mut Graph,
-    ) -> Result<(), AllocError>
-        requires low { self.now.entry < here }
-        requires high { here < self.now.exit }
-        requires next_low { self.now.entry < next }
-        requires next_high { next ≤ self.now.exit }
-        requires fits { ActFits self.now.program.now self.now.routine (acts.Call routine actuals.now None at) }
-        requires graph { IsDrawn self.now graph.old here }
-        ensures { OnOk result (IsDrawn self.now graph.new (here + 1)) }
-    {
-        let site = CallSite {
-            routine,
-            actuals,
-            slot: None,
-            at,
-        };
-        self.call(&site, here, next, graph)
-    }
-
-    fn goto(&self, routine: u32, label: u32, here: u32, graph: &mut Graph) -> Result<(), AllocError>
-        requires low { self.now.entry < here }
-        requires high { here < self.now.exit }
-        requires fits { ActFits self.now.program.now self.now.routine (acts.Goto routine) }
-        requires graph { IsDrawn self.now graph.old here }
-        ensures { OnOk result (IsDrawn self.now graph.new (here + 1)) }
-    {
-        graph.edge(here, Act::Goto { routine }, self.label(routine, label))
-    }
-
-    /// A condition from a point, with its two ways.
-    fn condition(
-        &self,
-        cond: &Expr,
-        here: u32,
-        held: u32,
-        failed: u32,
-        graph: &mut Graph,
-    ) -> Result<(), AllocError>
-        requires low { self.now.entry < here }
-        requires high { here < self.now.exit }
-        requires held_low { self.now.entry < held }
-        requires held_high { held ≤ self.now.exit }
-        requires failed_low { self.now.entry < failed }
-        requires failed_high { failed ≤ self.now.exit }
-        requires held_fits { ActFits self.now.program.now self.now.routine (acts.Test cond.now true) }
-        requires failed_fits { ActFits self.now.program.now self.now.routine (acts.Test cond.now false) }
-        requires graph { IsDrawn self.now graph.old here }
-        ensures { OnOk result (IsDrawn self.now graph.new (here + 1)) }
-    {
-        self.judge(here).expr(cond, &mut graph.checks)?;
-        self.test(cond, true, here, held, graph)?;
-        self.test(cond, false, here, failed, graph)
-    }
-
-    fn test(
-        &self,
-        cond: &Expr,
-        wanted: bool,
-        here: u32,
-        next: u32,
-        graph: &mut Graph,
-    ) -> Result<(), AllocError>
-        requires low { self.now.entry < here }
-        requires high { here < self.now.exit }
-        requires next_low { self.now.entry < next }
-        requires next_high { next ≤ self.now.exit }
-        requires fits { ActFits self.now.program.now self.now.routine (acts.Test cond.now wanted) }
-        requires graph { IsDrawn self.now graph.old here }
-        ensures { OnOk result (IsDrawn self.now graph.new here) }
-    {
-        let cond = copy_expr(self.alloc, cond)?;
-        self.edge(here, Act::Test { cond, wanted }, next, graph)
-    }
-
-    /// The ways into the statement of a `for` and past it.
-    fn bounds(
-        &self,
-        turn: Turn,
-        first: &Expr,
-        last: &Expr,
-        here: u32,
-        next: u32,
-        graph: &mut Graph,
-    ) -> Result<(), AllocError>
-        requires low { self.now.entry < here }
-        requires high { here < self.now.exit }
-        requires inside { here + 1 ≤ self.now.exit }
-        requires next_low { self.now.entry < next }
-        requires next_high { next ≤ self.now.exit }
-        requires enter { ActFits self.now.program.now self.now.routine (acts.Enter turn.control turn.bound first.now turn.down last.now) }
-        requires bypass { ActFits self.now.program.now self.now.routine (acts.Bypass turn.control turn.bound first.now turn.down last.now) }
-        requires graph { IsDrawn self.now graph.old here }
-        ensures { OnOk result (IsDrawn self.now graph.new (here + 1)) }
-    {
-        self.judge(here)
-            .bounds(turn.control, first, last, &mut graph.checks)?;
-        let enter = Act::Enter {
-            control: turn.control,
-            bound: turn.bound,
-            first: copy_expr(self.alloc, first)?,
-            down: turn.down,
-            last: copy_expr(self.alloc, last)?,
-        };
-        self.edge(here, enter, here + 1, graph)?;
-        let bypass = Act::Bypass {
-            control: turn.control,
-            bound: turn.bound,
-            first: copy_expr(self.alloc, first)?,
-            down: turn.down,
-            last: copy_expr(self.alloc, last)?,
-        };
-        self.edge(here, bypass, next, graph)
-    }
-
-    /// The ways from the end of a turn of a `for`: to the next turn, and out of it.
-    fn turns(
-        &self,
-        turn: Turn,
-        step: u32,
-        inside: u32,
-        next: u32,
-        graph: &mut Graph,
-    ) -> Result<(), AllocError>
-        requires low { self.now.entry < step }
-        requires high { step < self.now.exit }
-        requires inside_low { self.now.entry < inside }
-        requires inside_high { inside ≤ self.now.exit }
-        requires next_low { self.now.entry < next }
-        requires next_high { next ≤ self.now.exit }
-        requires again { ActFits self.now.program.now self.now.routine (acts.Next turn.control turn.bound turn.down) }
-        requires finish { ActFits self.now.program.now self.now.routine (acts.Finish turn.control turn.bound turn.down) }
-        requires graph { IsDrawn self.now graph.old step }
-        ensures { OnOk result (IsDrawn self.now graph.new (step + 1)) }
-    {
-        let Turn {
-            control,
-            bound,
-            down,
-        } = turn;
-        self.edge(
-            step,
-            Act::Next {
-                control,
-                bound,
-                down,
-            },
-            inside,
-            graph,
-        )?;
-        self.edge(
-            step,
-            Act::Finish {
-                control,
-                bound,
-                down,
-            },
-            next,
-            graph,
-        )
-    }
-
     /// The second branch of an `if`, where there is one.
     #[cycle(wire)]
     fn other(
@@ -695,6 +348,7 @@ impl<'a> Scene<'a> {
         requires graph { IsDrawn self.now graph.old stand.here }
         ensures order { IfOk result (λ k. k ≡ stand.order + length (second_or (extents.extent_of 0) (option_map extents.statement_extent no.now)).sizes) }
         ensures graph { OnOk result (IsDrawn self.now graph.new (stand.here + (second_or (extents.extent_of 0) (option_map extents.statement_extent no.now)).points)) }
+        ensures exact { OnOk result (IsFollowedBy graph.old graph.new (second_piece (plan_in self.now) (option_map (laid_statement (plan_in self.now)) no.now) stand.here stand.next)) }
     {
         match no {
             None => Ok(stand.order),
@@ -723,6 +377,7 @@ impl<'a> Scene<'a> {
         requires graph { IsDrawn self.now graph.old inside.here }
         ensures order { IfOk result (λ k. k ≡ inside.order + length (extents.arms_extent arms.now).sizes) }
         ensures graph { OnOk result (IsDrawn self.now graph.new (inside.here + (extents.arms_extent arms.now).points)) }
+        ensures exact { OnOk result (IsFollowedBy graph.old graph.new (arms_from (plan_in self.now) of.now from (map (laid_arm (plan_in self.now)) arms.now) inside.here inside.next)) }
     {
         let mut order = inside.order;
         let mut here = inside.here;
@@ -734,27 +389,6 @@ impl<'a> Scene<'a> {
             here = after;
         }
         Ok(order)
-    }
-
-    fn arm(
-        &self,
-        of: &Expr,
-        consts: &[i32],
-        here: u32,
-        next: u32,
-        graph: &mut Graph,
-    ) -> Result<(), AllocError>
-        requires low { self.now.entry < here }
-        requires high { here < self.now.exit }
-        requires next_low { self.now.entry < next }
-        requires next_high { next ≤ self.now.exit }
-        requires fits { ActFits self.now.program.now self.now.routine (acts.Arm of.now consts.now) }
-        requires graph { IsDrawn self.now graph.old next }
-        ensures { OnOk result (IsDrawn self.now graph.new next) }
-    {
-        let of = copy_expr(self.alloc, of)?;
-        let consts = Items::from_slice(self.alloc, consts)?;
-        self.edge(here, Act::Arm { of, consts }, next, graph)
     }
 
     /// The statements of a `repeat`, and then its condition, which has a point of its own.
@@ -777,6 +411,7 @@ impl<'a> Scene<'a> {
         requires graph { IsDrawn self.now graph.old (stand.here + 1) }
         ensures order { IfOk result (λ k. k ≡ stand.order + length (extents.with_before (extents.both (extents.statements_extent body.now) (extents.extent_of (suc (length (expr_calls cond.now)))))).sizes) }
         ensures graph { OnOk result (IsDrawn self.now graph.new (stand.here + (extents.with_before (extents.both (extents.statements_extent body.now) (extents.extent_of (suc (length (expr_calls cond.now)))))).points)) }
+        ensures exact { OnOk result (IsFollowedBy graph.old graph.new (until_piece (plan_in self.now) (map (laid_statement (plan_in self.now)) body.now) cond.now stand.here stand.next)) }
     {
         let mut sites = Vec::new(self.alloc);
         calls_in_expr(cond, &mut sites)?;
@@ -815,6 +450,7 @@ impl<'a> Scene<'a> {
         requires graph { IsDrawn self.now graph.old (here + 1) }
         ensures order { IfOk result (λ k. k ≡ stand.order + 1 + length (extents.statement_extent body.now).sizes) }
         ensures graph { OnOk result (IsDrawn self.now graph.new (here + (extents.statement_extent body.now).points + 2)) }
+        ensures exact { OnOk result (IsFollowedBy graph.old graph.new (loop_piece (plan_in self.now) turn.control turn.bound turn.down (laid_statement (plan_in self.now) body.now) here stand.next)) }
     {
         let step = here + 1 + self.size(stand.order + 1);
         let inside = Stand {
@@ -826,98 +462,4 @@ impl<'a> Scene<'a> {
         self.turns(turn, step, here + 1, stand.next, graph)?;
         Ok(order)
     }
-
-    /// The parameters of `read` from a point on, each an action of its own.
-    fn reads(
-        &self,
-        to: &[Access],
-        line: bool,
-        from: u32,
-        next: u32,
-        graph: &mut Graph,
-    ) -> Result<(), AllocError>
-        requires low { self.now.entry < from }
-        requires room { from + extents.total (map extents.read_points to.now) < self.now.exit }
-        requires next_low { self.now.entry < next }
-        requires next_high { next ≤ self.now.exit }
-        requires fits { ReadsFit self.now.program.now self.now.routine to.now }
-        requires graph { IsDrawn self.now graph.old from }
-        ensures { OnOk result (IsDrawn self.now graph.new (from + 1 + extents.total (map extents.read_points to.now))) }
-    {
-        let mut here = from;
-        for access in to {
-            here = self.read(access, here, graph)?;
-        }
-        let end = if line { Act::DropLine } else { Act::Skip };
-        self.edge(here, end, next, graph)
-    }
-
-    /// Gives the point after the parameter.
-    fn read(&self, access: &Access, from: u32, graph: &mut Graph) -> Result<u32, AllocError>
-        requires low { self.now.entry < from }
-        requires room { from + extents.read_points access.now < self.now.exit }
-        requires fits { ActFits self.now.program.now self.now.routine (acts.Read access.now) }
-        requires graph { IsDrawn self.now graph.old from }
-        ensures point { IfOk result (λ p. p ≡ from + extents.read_points access.now) }
-        ensures graph { IfOk result (λ p. IsDrawn self.now graph.new p) }
-    {
-        let mut sites = Vec::new(self.alloc);
-        calls_in_access(access, &mut sites)?;
-        let here = self.calls(sites.as_slice(), from, graph)?;
-        self.judge(here).read(access, &mut graph.checks)?;
-        let to = copy_access(self.alloc, access)?;
-        self.edge(here, Act::Read { to }, here + 1, graph)?;
-        Ok(here + 1)
-    }
-
-    /// The parameters of `write` from a point on, each an action of its own.
-    fn writes(
-        &self,
-        items: &[WriteItem],
-        line: bool,
-        from: u32,
-        next: u32,
-        graph: &mut Graph,
-    ) -> Result<(), AllocError>
-        requires low { self.now.entry < from }
-        requires room { from + extents.total (map extents.write_points items.now) < self.now.exit }
-        requires next_low { self.now.entry < next }
-        requires next_high { next ≤ self.now.exit }
-        requires fits { WritesFit self.now.program.now self.now.routine items.now }
-        requires graph { IsDrawn self.now graph.old from }
-        ensures { OnOk result (IsDrawn self.now graph.new (from + 1 + extents.total (map extents.write_points items.now))) }
-    {
-        let mut here = from;
-        for item in items {
-            here = self.write(item, here, graph)?;
-        }
-        let end = if line { Act::EndLine } else { Act::Skip };
-        self.edge(here, end, next, graph)
-    }
-
-    /// Gives the point after the parameter.
-    fn write(&self, item: &WriteItem, from: u32, graph: &mut Graph) -> Result<u32, AllocError>
-        requires low { self.now.entry < from }
-        requires room { from + extents.write_points item.now < self.now.exit }
-        requires fits { ActFits self.now.program.now self.now.routine (acts.Write item.now) }
-        requires graph { IsDrawn self.now graph.old from }
-        ensures point { IfOk result (λ p. p ≡ from + extents.write_points item.now) }
-        ensures graph { IfOk result (λ p. IsDrawn self.now graph.new p) }
-    {
-        let mut sites = Vec::new(self.alloc);
-        calls_in_item(item, &mut sites)?;
-        let here = self.calls(sites.as_slice(), from, graph)?;
-        self.judge(here).item(item, &mut graph.checks)?;
-        let item = copy_item(self.alloc, item)?;
-        self.edge(here, Act::Write { item }, here + 1, graph)?;
-        Ok(here + 1)
-    }
-}
-
-/// The control variable of a `for`, the hidden variable that keeps its last value, and its direction.
-#[derive(Clone, Copy)]
-pub struct Turn {
-    pub control: u32,
-    pub bound: u32,
-    pub down: bool,
 }

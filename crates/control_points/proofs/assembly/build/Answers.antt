@@ -23,6 +23,9 @@ label_tables-requires-clause-within c =
     let n = c.in_ok-numbering.numbering in
     λ r h. starts_within c.args.program n.marks c.in_ok-numbering.ensures.marks n.entries c.in_ok-numbering.ensures.entries r (omega (arith, h, c.len.ensures))
 
+pub wire-requires-clause-labelled : goal.wire-requires-clause-labelled
+wire-requires-clause-labelled c = rw c.as_slice.ensures (record { each = c.in_ok-labels.ensures.each })
+
 pub wire-requires-clause-jumps : goal.wire-requires-clause-jumps
 wire-requires-clause-jumps c =
     let n = c.in_ok-numbering.numbering in

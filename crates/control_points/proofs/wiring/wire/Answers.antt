@@ -4,6 +4,9 @@ use Rattle.control_points.specs.Extents.{routines_sizes}
 use Rattle.control_points.specs.Wired.{Begins, points_of}
 use Rattle.control_points.proofs.Drawn.{drawn_weaker}
 use Rattle.control_points.proofs.Whole.{blocks_in, number_few, routine_next, size_at}
+use Rattle.control_points.proofs.Followed.{leads_on, leads_end}
+use Rattle.control_points.proofs.Laying.{routines_left, routines_done}
+use Rattle.control_points.specs.Edges.{plan_from}
 use Rattle.control_points.proofs.wiring.wire.Goals as goal
 
 pub bounds-as_slice-r : goal.bounds-as_slice-r
@@ -52,6 +55,7 @@ invariant_of-scene c =
         entry_is = ap (λ xs. get_or xs r 0) c.as_slice.ensures;
         exit_is = ap (λ k. k - 1) read;
         tables = c.requires.tables;
+        labelled = c.requires.labelled;
         jumps = c.requires.jumps;
       };
     }
@@ -128,4 +132,17 @@ loop-r-preserved c =
     record {
       sizes = subst (λ k. Begins (routines_sizes (drop (r + 1) p.routines)) (drop k n.sizes)) (sym c.in_ok-order.ensures.order) rest;
       drawn = drawn_weaker p (points_of n.marks) _ _ _ _ c.in_ok-order.ensures.graph (omega (arith, read, same, block.order));
+      exact = leads_on c.loop-r.invariant.exact c.in_ok-order.ensures.exact (routines_left (plan_from p n.marks n.entries) p.routines r d within is);
     }
+
+pub returns-clause-edges : goal.returns-clause-edges
+returns-clause-edges c =
+    let p = c.args.program.now in
+    let n = c.args.numbering.now in
+    (leads_end c.loop-r.invariant.exact (routines_done (plan_from p n.marks n.entries) p.routines c.loop-r.r (omega (arith, c.loop-r-test.false, ap length c.as_slice-routine-items.ensures)))).0
+
+pub returns-clause-checks : goal.returns-clause-checks
+returns-clause-checks c =
+    let p = c.args.program.now in
+    let n = c.args.numbering.now in
+    (leads_end c.loop-r.invariant.exact (routines_done (plan_from p n.marks n.entries) p.routines c.loop-r.r (omega (arith, c.loop-r-test.false, ap length c.as_slice-routine-items.ensures)))).1
