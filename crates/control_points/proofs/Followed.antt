@@ -101,9 +101,10 @@ pub record LeadsTo (now : Graph) (left : Piece) (whole : Part) : Type 0 where
 
 pub leads_from_nothing : (g : Graph) (whole : Piece) → g.edges ≡ [] → g.checks ≡ [] → LeadsTo g whole (whole 0)
 leads_from_nothing g whole none no_checks = record {
-  then = λ new f.
-      (f.edges ∙ ap (λ es. es ++ (whole (length es)).edges) none,
-       f.checks ∙ ap (λ cs. cs ++ (whole (length g.edges)).checks) no_checks ∙ ap (λ (es : List Edge). (whole (length es)).checks) none);
+  then = λ new f. (
+    f.edges ∙ ap (λ es. es ++ (whole (length es)).edges) none,
+    f.checks ∙ ap (λ cs. cs ++ (whole (length g.edges)).checks) no_checks ∙ ap (λ (es : List Edge). (whole (length es)).checks) none,
+  );
 }
 
 pub leads_on : {now mid : Graph} {left p more : Piece} {whole : Part} → LeadsTo now left whole → IsFollowedBy now mid p → left ≡ both p more → LeadsTo mid more whole

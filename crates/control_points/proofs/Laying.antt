@@ -18,7 +18,7 @@ use Rattle.control_points.specs.declared.edge.Act.{Act}
 use Rattle.control_points.specs.declared.edge.Act.TheVariants as act
 use Rattle.control_points.specs.Called.{calls_of, own_calls, site_of, sites_of}
 use Rattle.control_points.specs.Calls.{Sites, expr_calls}
-use Rattle.control_points.specs.Checking.{assert_checks, result_checks}
+use Rattle.control_points.specs.Checking.{assert_checks, result_checks, selector_checks}
 use Rattle.control_points.specs.Edges.{Placing, arm_piece, arms_from, body_piece, body_step, following, in_order, inner_piece, laid_arm, laid_body, laid_statement, loop_piece, own_piece, part_piece, points_of, routine_piece, routines_piece, second_piece, second_start, statement_piece, statement_step, until_piece}
 use Rattle.control_points.specs.Extents.{arm_extent, read_points, statement_extent, statements_extent, total, write_points, all_of}
 use Rattle.control_points.specs.Pieces.{Piece, Plan, both, judged, nothing, way}
@@ -176,6 +176,10 @@ module _ (plan : Plan) where
       → pieces.condition plan cond source (source + 1) failed ≡ own_piece plan (laid_body plan (Body-F.If cond first other)) source next
   if_own cond first None source next failed e = ap (pieces.condition plan cond source (source + 1)) e
   if_own cond first (Some s) source next failed e = ap (pieces.condition plan cond source (source + 1)) e
+
+  pub case_own : (selector : Expr) (arms : List Arm) (source next : ℕ) → both (judged source (selector_checks plan.tables selector)) (pieces.no_arms arms selector source next) ≡ own_piece plan (laid_body plan (Body-F.Case selector arms)) source next
+  case_own selector [] source next = refl
+  case_own selector (arm ∷ arms) source next = refl
 
   pub until_is : (body : List (Statement × Placing)) (cond : Expr) (here next until : ℕ) → until ≡ here + 1 + points_of body → (sites : Sites) → sites ≡ expr_calls cond → (last : ℕ) → last ≡ here + 1 + points_of body + length (expr_calls cond)
       → both (in_order plan body (here + 1) until) (both (pieces.calls plan sites until) (pieces.condition plan cond last next (here + 1))) ≡ until_piece plan body cond here next

@@ -1,8 +1,11 @@
 pub mod Asserted
 pub mod Blocks
 pub mod CallsOf
+pub mod Covered
 pub mod Drawn
+pub mod EdgeExamples
 pub mod Examples
+pub mod Exits
 pub mod Fitting
 pub mod Followed
 pub mod Inside
@@ -15,6 +18,7 @@ pub mod Loops
 pub mod Numbered
 pub mod Opened
 pub mod OwnCalls
+pub mod Paired
 pub mod Passing
 pub mod Pointed
 pub mod Scened

@@ -27,7 +27,7 @@ use Rattle.control_points.specs.Chart.{Chart, numbers_from, leaving, place_of_po
 use Rattle.control_points.specs.Evaluation.{Answer, Spot, then_with, checked, defined, var_type, value, spot, assigned}
 use Rattle.control_points.specs.Fits.{is_return_of, routine_at, kind_at, act_at}
 use Rattle.control_points.specs.Input.{Taken, next_number}
-use Rattle.control_points.specs.Leading.{EdgesPair, IsCase, other_way, is_other_way, is_return, is_exit, is_arm}
+use Rattle.control_points.specs.Leading.{IsCase, other_way, is_other_way, is_return, is_exit, is_arm}
 use Rattle.control_points.specs.Output.{Written, is_width}
 use Rattle.control_points.specs.States.{Stack, State}
 use Rattle.control_points.specs.Storage.{whole}
@@ -213,7 +213,7 @@ return_is k _ h = absurd (true≢false (sym h))
 pub last_number : (p n : ℕ) → p ≡ n - 1 → p < n → suc p ≡ n
 last_number p n e h = omega arith
 
-module _ (c : Chart) (w : IsWellFormed c) (pairs : EdgesPair c.main c.points c.edges) where
+module _ (c : Chart) (w : IsWellFormed c) where
   -- at an exit a run has halted, or a return leads on
   exit_is_left : (stack : Stack) → IsStack c stack → is_halted c stack ≡ false → kind_at c.points (point_of stack) ≡ Some kind.Exit
       → ((j : ℕ) (f : Edge) → slice_get c.edges (suc j) ≡ Some f → f.act ≡ act.Return j → f.from ≡ point_of stack → was_made_by j (top_call stack) ≡ true → ⊥)
@@ -222,18 +222,18 @@ module _ (c : Chart) (w : IsWellFormed c) (pairs : EdgesPair c.main c.points c.e
   exit_is_left (a ∷ []) is halted exit returns =
       let q = map_found (λ (x : Point). x.kind) (slice_get c.points a.point) kind.Exit exit in
       let within = slice_get_within c.points a.point q.0 q.1 in
-      let last = pairs.exit_once a.point (length c.points - 1) c.main exit pairs.last_exit is.stands pairs.last_routine in
+      let last = w.pairs.exit_once a.point (length c.points - 1) c.main exit w.pairs.last_exit is.stands w.pairs.last_routine in
       true≢false (sym (eq-eqb (suc a.point) (length c.points) (last_number a.point (length c.points) last within)) ∙ halted)
   exit_is_left (a ∷ b ∷ below) is halted exit returns =
       let x = is.0 in
       let f = holds_found (is_return_of x.edge) (act_at c.edges (suc x.edge)) (w.calls.return x.edge a.frame.routine x.site x.known x.callee) in
       let g = map_found (λ (e : Edge). e.act) (slice_get c.edges (suc x.edge)) f.0 f.1 in
       let from =
-      pairs.exit_once (g.0).from a.point a.frame.routine (w.calls.exit x.edge a.frame.routine x.site g.0 x.known g.1 x.callee) exit
+      w.pairs.exit_once (g.0).from a.point a.frame.routine (w.calls.exit x.edge a.frame.routine x.site g.0 x.known g.1 x.callee) exit
       (w.calls.exited x.edge a.frame.routine x.site g.0 x.known g.1 x.callee) x.stands in
       returns x.edge g.0 g.1 (g.2 ∙ return_is x.edge f.0 f.2) from (ap (was_made_by x.edge) x.made ∙ eq-eqb x.edge x.edge refl)
 
-module _ (c : Chart) (w : IsWellFormed c) (pairs : EdgesPair c.main c.points c.edges) (s : State) (v : IsValid c s) (r : ℕ) (here : IsOf s.stack (top_depth s.stack) r) (stands : routine_at c.points (point_of s.stack) ≡ Some r)
+module _ (c : Chart) (w : IsWellFormed c) (s : State) (v : IsValid c s) (r : ℕ) (here : IsOf s.stack (top_depth s.stack) r) (stands : routine_at c.points (point_of s.stack) ≡ Some r)
     (refused : (k : ℕ) (e : Edge) → slice_get c.edges k ≡ Some e → e.from ≡ point_of s.stack → IsRefused c s k e) where
   return_done : (j : ℕ) (f : Edge) → slice_get c.edges (suc j) ≡ Some f → f.act ≡ act.Return j → f.from ≡ point_of s.stack → was_made_by j (top_call s.stack) ≡ true → ⊥
   unfolding IsRefused
@@ -279,8 +279,8 @@ module _ (c : Chart) (w : IsWellFormed c) (pairs : EdgesPair c.main c.points c.e
   both_ways : (k : ℕ) (e : Edge) → slice_get c.edges k ≡ Some e → e.from ≡ point_of s.stack → (b : Act) → other_way e.act ≡ Some b → ⊥
   unfolding IsRefused
   both_ways k e known from b other =
-      let f = map_found (λ (g : Edge). g.act) (slice_get c.edges (suc k)) b (pairs.followed k e b known other) in
-      let g = map_found (λ (g : Edge). g.from) (slice_get c.edges (suc k)) e.from (pairs.beside k e b known other) in
+      let f = map_found (λ (g : Edge). g.act) (slice_get c.edges (suc k)) b (w.pairs.followed k e b known other) in
+      let g = map_found (λ (g : Edge). g.from) (slice_get c.edges (suc k)) e.from (w.pairs.beside k e b known other) in
       let same = same_Some f.0 g.0 (sym f.1 ∙ g.1) in
       let there = refused (suc k) f.0 f.1 (ap (λ (x : Edge). x.from) same ∙ g.2 ∙ from) in
       first_way k e known from e.act b refl other (suc k) (place_of_point c.points e.from) (place_of_point c.points (f.0).from) (refused k e known from)
@@ -288,9 +288,9 @@ module _ (c : Chart) (w : IsWellFormed c) (pairs : EdgesPair c.main c.points c.e
 
   other_way_done : (k : ℕ) (e : Edge) → slice_get c.edges k ≡ Some e → e.from ≡ point_of s.stack → is_other_way e.act ≡ true → ⊥
   other_way_done k e known from h =
-      let a = and_then_found other_way (act_at c.edges (k - 1)) e.act (pairs.preceded k e known h) in
+      let a = and_then_found other_way (act_at c.edges (k - 1)) e.act (w.pairs.preceded k e known h) in
       let f = map_found (λ (g : Edge). g.act) (slice_get c.edges (k - 1)) a.0 a.1 in
-      let g = map_found (λ (g : Edge). g.from) (slice_get c.edges (k - 1)) e.from (pairs.behind k e known h) in
+      let g = map_found (λ (g : Edge). g.from) (slice_get c.edges (k - 1)) e.from (w.pairs.behind k e known h) in
       let same = same_Some f.0 g.0 (sym f.1 ∙ g.1) in
       both_ways (k - 1) f.0 f.1 (ap (λ (x : Edge). x.from) same ∙ g.2 ∙ from) e.act (ap other_way f.2 ∙ a.2)
 
@@ -317,14 +317,14 @@ module _ (c : Chart) (w : IsWellFormed c) (pairs : EdgesPair c.main c.points c.e
   point_is_case : (q : Point) → slice_get c.points (point_of s.stack) ≡ Some q → is_exit q.kind ≡ false → IsCase c.edges (point_of s.stack)
   unfolding IsRefused
   point_is_case q known inside = record {
-    leads = pairs.goes_on (point_of s.stack) q known inside;
+    leads = w.pairs.goes_on (point_of s.stack) q known inside;
     arms = λ k e there from.
-        edge_is_arm k e there from (pairs.returns k e q there (ap (slice_get c.points) from ∙ known) ∙ inside) e.act refl (place_of_point c.points e.from) (refused k e there from);
+        edge_is_arm k e there from (w.pairs.returns k e q there (ap (slice_get c.points) from ∙ known) ∙ inside) e.act refl (place_of_point c.points e.from) (refused k e there from);
   }
 
 -- where no action is done, the run has halted, or the point is that of a `case`
-pub no_action_is_case : (c : Chart) → IsWellFormed c → EdgesPair c.main c.points c.edges → (s : State) → IsValid c s → is_halted c s.stack ≡ false → first_done c s (leaving c.edges (point_of s.stack)) ≡ Ok None → IsCase c.edges (point_of s.stack)
-no_action_is_case c w pairs s v halted h =
+pub no_action_is_case : (c : Chart) → IsWellFormed c → (s : State) → IsValid c s → is_halted c s.stack ≡ false → first_done c s (leaving c.edges (point_of s.stack)) ≡ Ok None → IsCase c.edges (point_of s.stack)
+no_action_is_case c w s v halted h =
     let r = standing_routine c s.stack v.stack in
     let here = latest_found c s.stack v.stack r.0 r.1 in
     let q = map_found (λ (x : Point). x.routine) (slice_get c.points (point_of s.stack)) r.0 r.1 in
@@ -332,7 +332,7 @@ no_action_is_case c w pairs s v halted h =
     elim (cases_Bool (is_exit (q.0).kind)) [
       | inl e ↦
           absurd
-          (exit_is_left c w pairs s.stack v.stack halted (ap (option_map (λ (x : Point). x.kind)) q.1 ∙ ap Some (exit_is (q.0).kind e))
-          (return_done c w pairs s v r.0 here r.1 refused))
-      | inr e ↦ point_is_case c w pairs s v r.0 here r.1 refused q.0 q.1 e
+          (exit_is_left c w s.stack v.stack halted (ap (option_map (λ (x : Point). x.kind)) q.1 ∙ ap Some (exit_is (q.0).kind e))
+          (return_done c w s v r.0 here r.1 refused))
+      | inr e ↦ point_is_case c w s v r.0 here r.1 refused q.0 q.1 e
     ]

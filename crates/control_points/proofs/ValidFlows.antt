@@ -15,7 +15,7 @@ use Rattle.control_points.specs.declared.flow.Flow.{Flow}
 use Rattle.control_points.specs.declared.point.Point.{Point}
 use Rattle.control_points.specs.Acts.{each_act}
 use Rattle.control_points.specs.Flows.{chart_of}
-use Rattle.control_points.specs.Leading.{EntriesFit, EdgesLead}
+use Rattle.control_points.specs.Leading.{EdgesLead, EdgesPair, EntriesFit}
 use Rattle.control_points.specs.WellFormed.{TablesFit, IsWellFormed}
 use Rattle.control_points.proofs.ValidBasics.{map_found, holds_found, same_kind}
 
@@ -109,8 +109,8 @@ module _ (p : Program) where
     high = λ n boolean lo hi known. (and_parts (in_host boolean hi) _ (and_parts (in_host boolean lo) _ (p.types_fit.each n (Scalar boolean lo hi) known)).1).0;
   }
 
-pub flow_is_well_formed : (f : Flow) → EntriesFit f.program f.points → EdgesLead f.points f.edges → IsWellFormed (chart_of f)
-flow_is_well_formed f entries leads =
+pub flow_is_well_formed : (f : Flow) → EntriesFit f.program f.points → EdgesLead f.points f.edges → EdgesPair (length f.program.routines - 1) f.points f.edges → IsWellFormed (chart_of f)
+flow_is_well_formed f entries leads pairs =
     let last = f.program.in_scope.last in
     record {
       tables = tables_fit f.program;
@@ -121,4 +121,5 @@ flow_is_well_formed f entries leads =
           subst (λ n. each_act (scope_rule (tables f.program) n) e.act ≡ true) q.2 (f.edges_fit.scopes k e q.0 known q.1);
       calls = f.calls_return;
       leads = leads;
+      pairs = pairs;
     }

@@ -38,7 +38,7 @@ use Rattle.control_points.specs.Evaluation.{Answer, View, Spot, checked, defined
 use Rattle.control_points.specs.Fits.{routine_at}
 use Rattle.control_points.specs.Foreseen.{IsForeseen, act_checks, unchecked, returned_checks, expr_slots, access_slots, actual_slots, actuals_slots, written_slots, width_slots}
 use Rattle.control_points.specs.Input.{Taken, next_number}
-use Rattle.control_points.specs.Leading.{EdgesPair, is_arm}
+use Rattle.control_points.specs.Leading.{is_arm}
 use Rattle.control_points.specs.Output.{Written, is_width}
 use Rattle.control_points.specs.Runs.{IsInput, IsInputItem}
 use Rattle.control_points.specs.States.{State}
@@ -469,8 +469,8 @@ module _ (c : Chart) (s : State) where
   progress_fails selector (Ok None) f h = inr (refl, same_fault _ f h)
   progress_fails selector (Err g) f h = inl (ap Err (same_fault g f h))
 
-pub error_is_foreseen : (c : Chart) → IsWellFormed c → EdgesPair c.main c.points c.edges → (s : State) → IsValid c s → (f : Fault) → next c s ≡ fails f → IsForeseen c s f
-error_is_foreseen c w pairs s v f h =
+pub error_is_foreseen : (c : Chart) → IsWellFormed c → (s : State) → IsValid c s → (f : Fault) → next c s ≡ fails f → IsForeseen c s f
+error_is_foreseen c w s v f h =
     let r = standing_routine c s.stack v.stack in
     let here = latest_found c s.stack v.stack r.0 r.1 in
     let ks = leaving c.edges (point_of s.stack) in
@@ -481,7 +481,7 @@ error_is_foreseen c w pairs s v f h =
       | inr e ↦ elim (progress_fails c s (selector_of c ks) (first_done c s ks) f (sym (cond-false (is_halted c s.stack) halts goes e) ∙ h)) [
         | inl g ↦ first_error c w s v r.0 here r.1 ks all f g
         | inr n ↦
-            let x = no_action_is_case c w pairs s v e n.0 in
+            let x = no_action_is_case c w s v e n.0 in
             case_foreseen c s ks all x.leads x.arms f n.1
       ]
     ]

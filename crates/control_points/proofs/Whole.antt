@@ -134,4 +134,4 @@ module _ (program : Program) (points : List Point) (edges : List Edge) (wired : 
   }
 
   pub exits_return : ExitsReturn points edges
-  exits_return = record { only = λ k e h. (wired.each k e h).returns }
+  exits_return = record { only = λ k e h. (wired.each k e h).returns; back = λ k e h. (wired.each k e h).returned }

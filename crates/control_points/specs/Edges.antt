@@ -21,7 +21,7 @@ use Rattle.control_points.specs.Checking.{assert_checks, result_checks, selector
 use Rattle.control_points.specs.Extents.{statement_extent, arm_extent, all_of}
 use Rattle.control_points.specs.Labelled.{label_in}
 use Rattle.control_points.specs.Marks.{routines_marks, starts}
-use Rattle.control_points.specs.Pieces.{Piece, Plan, nothing, both, way, judged, line_act, procedure_call, turns}
+use Rattle.control_points.specs.Pieces.{Piece, Plan, nothing, both, way, judged, line_act, no_arms, procedure_call, turns}
 use Rattle.control_points.specs.Pieces as of
 
 -- what a statement draws, by the point before it and the point that follows it
@@ -87,7 +87,7 @@ module _ (plan : Plan) where
   own_piece (Body-F.Goto routine number) source next = way source (act.Goto routine) (plan.label routine number)
   own_piece (Body-F.Begin body end) source next = way source act.Skip (source + 1)
   own_piece (Body-F.If cond first second) source next = of.condition plan cond source (source + 1) (second_start second (source + 1 + (statement_extent first.0).points) next)
-  own_piece (Body-F.Case selector arms) source next = judged source (selector_checks plan.tables selector)
+  own_piece (Body-F.Case selector arms) source next = both (judged source (selector_checks plan.tables selector)) (no_arms arms selector source next)
   own_piece (Body-F.While cond body) source next = of.condition plan cond source (source + 1) next
   own_piece (Body-F.Repeat body until cond) source next = way source act.Skip (source + 1)
   own_piece (Body-F.For control bound first down final body) source next = of.bounds plan control bound first down final source next

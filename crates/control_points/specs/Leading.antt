@@ -55,9 +55,10 @@ is_exit _ = false
 abbrev pub source_at : List Edge → ℕ → Option ℕ
 source_at edges k = option_map (λ (e : Edge). e.from) (slice_get edges k)
 
--- every edge that leaves an exit is a return
+-- every edge that leaves an exit is a return, and every return leaves one
 pub record ExitsReturn (points : List Point) (edges : List Edge) : Type 0 where
   pub only : (k : ℕ) (e : Edge) → slice_get edges k ≡ Some e → kind_at points e.from ≡ Some kind.Exit → is_return e.act ≡ true
+  pub back : (k : ℕ) (e : Edge) → slice_get edges k ≡ Some e → is_return e.act ≡ true → kind_at points e.from ≡ Some kind.Exit
 
 -- Both ways leave one point. From each point but the exits an edge leads away; from the exits only returns do. A routine has one
 -- exit, and the last point is that of the program's block.

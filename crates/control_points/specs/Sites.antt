@@ -185,6 +185,11 @@ module _ (t : Tables) (asserts : List Assert) (r : ℕ) where
   arms_from n selector source (arm ∷ arms) path next =
       both (way source (act.Arm selector arm.0) (before (inner path n))) (both (arm.1 (inner path n) next) (arms_from (suc n) selector source arms path next))
 
+  -- a `case` without arms has one way, for no constant, so that an edge leaves its point
+  abbrev pub no_arms : List (List ℤ × Placing) → Expr → Site → Site → Piece
+  no_arms [] selector source next = way source (act.Arm selector []) next
+  no_arms (arm ∷ arms) selector source next = nothing
+
   abbrev pub second_branch : Option Placing → Path → Site → Site
   second_branch None path next = next
   second_branch (Some s) path next = before (inner path 1)
@@ -217,7 +222,7 @@ module _ (t : Tables) (asserts : List Assert) (r : ℕ) where
   body_step label (Body-F.Begin body end) at path next = both (way (before path) act.Skip (before (inner path 0))) (in_order 0 body path next)
   body_step label (Body-F.If cond first second) at path next =
       both (condition path (before path) cond (before (inner path 0)) (second_branch second path next)) (both (first (inner path 0) next) (second_piece second path next))
-  body_step label (Body-F.Case selector arms) at path next = action path (before path) (expr_calls selector) (selector_checks t selector) (λ here. arms_from 0 selector here arms path next)
+  body_step label (Body-F.Case selector arms) at path next = action path (before path) (expr_calls selector) (selector_checks t selector) (λ here. both (no_arms arms selector here next) (arms_from 0 selector here arms path next))
   body_step label (Body-F.While cond body) at path next = both (condition path (before path) cond (before (inner path 0)) next) (body (inner path 0) (before path))
   body_step label (Body-F.Repeat body until cond) at path next =
       both (way (before path) act.Skip (before (inner path 0)))

@@ -11,7 +11,7 @@ use Rattle.control_points.specs.declared.edge.Edge.{Edge}
 use Rattle.control_points.specs.Acts.{each_act, act_types_fit}
 use Rattle.control_points.specs.Chart.{Chart, entry_of}
 use Rattle.control_points.specs.Fits.{CallsReturn, routine_at}
-use Rattle.control_points.specs.Leading.{EdgesLead}
+use Rattle.control_points.specs.Leading.{EdgesLead, EdgesPair}
 
 -- Tables of a checked program: its block has no routine around it and no parameters, a routine's formals are variables of it, its
 -- variable parameters are among them, each variable and each element has a type, and the values of a scalar type are numbers of its host.
@@ -33,3 +33,4 @@ pub record IsWellFormed (c : Chart) : Type 0 where
   pub scopes : (k r : ℕ) (e : Edge) → slice_get c.edges k ≡ Some e → routine_at c.points e.from ≡ Some r → each_act (scope_rule c.tables r) e.act ≡ true
   pub calls : CallsReturn c.points c.edges
   pub leads : EdgesLead c.points c.edges
+  pub pairs : EdgesPair c.main c.points c.edges

@@ -17,6 +17,9 @@ use Rattle.control_points.specs.Leading.{goes_on_after, is_exit, is_return}
 abbrev pub points_of : List Mark → List Point
 points_of marks = map (λ (m : Mark). m.point) marks
 
+abbrev pub asserts_of : List Mark → List (List ℕ)
+asserts_of marks = map (λ (m : Mark). m.asserts) marks
+
 -- the numbers, types and scopes of an action of the routine r fit
 pub record ActFits (program : Program) (r : ℕ) (a : Act) : Type 0 where
   pub numbers : each_act (numbers_in program) a ≡ true

@@ -1,5 +1,5 @@
 //! The edges and checks of the action that leaves a point.
-ghost use Rattle.std.specs.Prelude.{◌≡◌, ℕ, suc, ◌+◌, ◌<◌, ◌≤◌, map, length, true, false, OnOk, IfOk, None};
+ghost use Rattle.std.specs.Prelude.{◌≡◌, [], ℕ, suc, ◌+◌, ◌<◌, ◌≤◌, map, length, true, false, OnOk, IfOk, None};
 ghost use Rattle.pas_program.specs.Checked.{tables};
 ghost use Rattle.control_points.specs.Called.{site_of, sites_of};
 ghost use Rattle.control_points.specs.Checking.{assert_checks, selector_checks};
@@ -16,7 +16,7 @@ use crate::copy::{copy_access, copy_actuals, copy_expr, copy_item};
 use crate::edge::Act;
 use crate::graph::Graph;
 use crate::scene::Scene;
-use pas_program::{Access, Actual, Expr, WriteItem};
+use pas_program::{Access, Actual, Arm, Expr, WriteItem};
 use sqlite_items::Items;
 use std::alloc::AllocError;
 
@@ -43,7 +43,12 @@ impl<'a> Scene<'a> {
     }
 
     /// The function calls of an action from a point. Gives the point to which the last one returns.
-    pub fn calls(&self, sites: &[CallSite<'_>], from: u32, graph: &mut Graph) -> Result<u32, AllocError>
+    pub fn calls(
+        &self,
+        sites: &[CallSite<'_>],
+        from: u32,
+        graph: &mut Graph,
+    ) -> Result<u32, AllocError>
         requires fits { SitesFit self.now.program.now self.now.routine (sites_of sites.now) }
         requires low { self.now.entry < from }
         requires room { from + length sites.now < self.now.exit }
@@ -191,7 +196,13 @@ impl<'a> Scene<'a> {
     }
 
     /// A `goto`.
-    pub fn goto(&self, routine: u32, label: u32, here: u32, graph: &mut Graph) -> Result<(), AllocError>
+    pub fn goto(
+        &self,
+        routine: u32,
+        label: u32,
+        here: u32,
+        graph: &mut Graph,
+    ) -> Result<(), AllocError>
         requires low { self.now.entry < here }
         requires high { here < self.now.exit }
         requires fits { ActFits self.now.program.now self.now.routine (acts.Goto routine) }
@@ -337,6 +348,33 @@ impl<'a> Scene<'a> {
             next,
             graph,
         )
+    }
+
+    /// The way on from a `case` without arms, for no constant, so that an edge leaves its point. In a checked program each
+    /// has an arm.
+    pub fn no_arms(
+        &self,
+        arms: &[Arm],
+        of: &Expr,
+        here: u32,
+        next: u32,
+        graph: &mut Graph,
+    ) -> Result<(), AllocError>
+        requires low { self.now.entry < here }
+        requires high { here < self.now.exit }
+        requires next_low { self.now.entry < next }
+        requires next_high { next ≤ self.now.exit }
+        requires fits { ActFits self.now.program.now self.now.routine (acts.Arm of.now []) }
+        requires graph { IsDrawn self.now graph.old (here + 1) }
+        ensures graph { OnOk result (IsDrawn self.now graph.new (here + 1)) }
+        ensures exact { OnOk result (IsFollowedBy graph.old graph.new (pieces.no_arms arms.now of.now here next)) }
+    {
+        if !arms.is_empty() {
+            return Ok(());
+        }
+        let of = copy_expr(self.alloc, of)?;
+        let consts = Items::new(self.alloc);
+        self.edge(here, Act::Arm { of, consts }, next, graph)
     }
 
     /// The way to an arm of a `case`.

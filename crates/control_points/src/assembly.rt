@@ -1,6 +1,5 @@
-ghost use Rattle.std.specs.Prelude.{◌≡◌, map, IfOk};
+ghost use Rattle.std.specs.Prelude.{◌≡◌, IfOk};
 ghost use Rattle.control_points.specs.Wired as wired;
-ghost use Rattle.control_points.specs.declared.numbering.Mark.{Mark};
 
 use crate::flow::Flow;
 use crate::graph::{End, by_point};
@@ -46,7 +45,7 @@ fn points_of(alloc: Global, marks: &[Mark]) -> Result<Items<Point>, AllocError>
 }
 
 fn asserts_of(alloc: Global, marks: &[Mark]) -> Result<Items<Items<u32>>, AllocError>
-    ensures { IfOk result (λ asserts. asserts ≡ map (λ (m : Mark). m.asserts) marks.now) }
+    ensures { IfOk result (λ asserts. asserts ≡ wired.asserts_of marks.now) }
 {
     let mut asserts = Items::new(alloc);
     for mark in marks {

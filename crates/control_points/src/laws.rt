@@ -17,7 +17,7 @@ ghost use Rattle.control_points.specs.Finding.{frame_at};
 ghost use Rattle.control_points.specs.Fits.{routine_at};
 ghost use Rattle.control_points.specs.Flows.{chart_of};
 ghost use Rattle.control_points.specs.Foreseen.{IsForeseen};
-ghost use Rattle.control_points.specs.Leading.{EdgesPair, IsAtEnd, IsCase};
+ghost use Rattle.control_points.specs.Leading.{IsAtEnd, IsCase};
 ghost use Rattle.control_points.specs.Matching.{IsMadeAt, IsStep};
 ghost use Rattle.control_points.specs.Runs.{IsInput, IsOnTheWay, at, start};
 ghost use Rattle.control_points.specs.States.{Frame, State};
@@ -60,16 +60,14 @@ pub fn runs_are_valid()
     ensures { (c : Chart) (items : List Item) (i : ℕ) (s : State) → IsWellFormed c → IsInput items → at c items i ≡ Some s → IsValid c s }
 {}
 
-/// In a valid state the run has halted, or an action is done or is an error, or the state stands at a `case`. It is given that two ways
-/// of a condition and of a `for` leave one point.
+/// In a valid state the run has halted, or an action is done or is an error, or the state stands at a `case`.
 pub fn only_a_case_may_have_no_action()
-    ensures { (c : Chart) (s : State) → IsWellFormed c → EdgesPair c.main c.points c.edges → IsValid c s → is_halted c s.stack ≡ false → first_done c s (leaving c.edges (point_of s.stack)) ≡ Ok None → IsCase c.edges (point_of s.stack) }
+    ensures { (c : Chart) (s : State) → IsWellFormed c → IsValid c s → is_halted c s.stack ≡ false → first_done c s (leaving c.edges (point_of s.stack)) ≡ Ok None → IsCase c.edges (point_of s.stack) }
 {}
 
-/// In a valid state a run halts where the program's block is at its exit and no other activation is there, and nowhere else. It is given
-/// that this exit is the last point, and that a routine has one exit.
+/// In a valid state a run halts where the program's block is at its exit and no other activation is there, and nowhere else.
 pub fn a_run_halts_at_its_exit_alone()
-    ensures { (c : Chart) (s : State) → EdgesPair c.main c.points c.edges → IsValid c s → (next c s ≡ halts) ↔ IsAtEnd c.points (length s.stack) (point_of s.stack) }
+    ensures { (c : Chart) (s : State) → IsWellFormed c → IsValid c s → (next c s ≡ halts) ↔ IsAtEnd c.points (length s.stack) (point_of s.stack) }
 {}
 
 /// In a valid state a variable that the latest activation sees has a place, which exists and is of the variable's type.
@@ -90,5 +88,5 @@ pub fn values_lie_in_their_hosts()
 /// In a valid state an error of a step is one that the action of an edge may be that leaves the point, or one for which no check stands: an
 /// undefined slot, or at the end of a turn of a `for` an undefined control variable or bound.
 pub fn each_error_is_foreseen()
-    ensures { (c : Chart) (s : State) (f : Fault) → IsWellFormed c → EdgesPair c.main c.points c.edges → IsValid c s → next c s ≡ fails f → IsForeseen c s f }
+    ensures { (c : Chart) (s : State) (f : Fault) → IsWellFormed c → IsValid c s → next c s ≡ fails f → IsForeseen c s f }
 {}

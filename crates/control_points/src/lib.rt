@@ -1,8 +1,8 @@
 //! The control-flow graph of a checked program, and what the program means.
 //!
 //! A run stands at a point. Edges lead from point to point, each with one action: an assignment, a test, a call and so
-//! on. `build` gives a program's points, edges and runtime checks. The definitions in `specs/` say over these what a
-//! store, a state, a step and a run are.
+//! on. `build` gives a program's points, edges and runtime checks, which are exactly those of its text (`Flow`). The
+//! definitions in `specs/` say over these what a store, a state, a step and a run are.
 //!
 //! A point, edge, check, variable, routine or assertion is a number, counted from 0, into the list of its kind. A place is
 //! a byte offset from 0 into the source.

@@ -90,7 +90,12 @@ impl<'a> Scene<'a> {
     ghost use Rattle.control_points.specs.Drawing.{IsDrawn, SizesAt, StandsAt, plan_in};
 
     /// The statement part of the routine. Gives the order of the first statement behind it.
-    pub fn block(&self, routine: &Routine, order: usize, graph: &mut Graph) -> Result<usize, AllocError>
+    pub fn block(
+        &self,
+        routine: &Routine,
+        order: usize,
+        graph: &mut Graph,
+    ) -> Result<usize, AllocError>
         requires outermost { is_outermost routine.now.body ≡ true }
         requires numbers { each_statement (numbers_in self.now.program.now) routine.now.body ≡ true }
         requires types { statement_types_fit (tables self.now.program.now) routine.now.body ≡ true }
@@ -219,7 +224,10 @@ impl<'a> Scene<'a> {
                 };
                 self.condition(cond, here, here + 1, failed, graph)
             }
-            Body::Case { of, .. } => self.selector(of, here, graph),
+            Body::Case { of, arms } => {
+                self.selector(of, here, graph)?;
+                self.no_arms(arms.as_slice(), of, here, stand.next, graph)
+            }
             Body::While { cond, .. } => { self.condition(cond, here, here + 1, stand.next, graph) }
             Body::Repeat { .. } => self.skip(here, here + 1, graph),
             Body::For {

@@ -1,10 +1,9 @@
-use Rattle.std.proofs.Common.{◌≡◌, map, length, sym, ap, subst, ◌∙◌, Some, arith}
+use Rattle.std.proofs.Common.{◌≡◌, length, sym, ap, subst, ◌∙◌, Some, arith}
 use Rattle.std.specs.List.{slice_get}
-use Rattle.control_points.specs.declared.numbering.Mark.{Mark}
 use Rattle.control_points.specs.Chart.{arriving, leaving}
 use Rattle.control_points.specs.Fits.{AssertsFit, ChecksFit, PointsFit}
 use Rattle.control_points.specs.Leading.{EntriesFit}
-use Rattle.control_points.specs.Wired.{IsWired, points_of}
+use Rattle.control_points.specs.Wired.{IsWired, asserts_of, points_of}
 use Rattle.control_points.proofs.Whole.{asserts_fit, blocks_in, edges_fit, edges_lead, entries_fit, exits_return, labels_lead, points_fit, starts_rise, starts_within}
 use Rattle.control_points.proofs.assembly.build.Goals as goal
 
@@ -49,7 +48,7 @@ invariant_of-result c =
     let edges = c.in_ok-graph.graph.edges in
     let points = c.in_ok-points.points in
     let points_are : points ≡ points_of n.marks = c.in_ok-points.ensures ∙ ap points_of c.as_slice-2.ensures in
-    let asserts_are : c.in_ok-asserts.asserts ≡ map (λ (m : Mark). m.asserts) n.marks = c.in_ok-asserts.ensures ∙ ap (map (λ (m : Mark). m.asserts)) c.as_slice-3.ensures in
+    let asserts_are : c.in_ok-asserts.asserts ≡ asserts_of n.marks = c.in_ok-asserts.ensures ∙ ap asserts_of c.as_slice-3.ensures in
     let wired = subst (λ ps. IsWired p ps edges) (sym points_are) c.in_ok-graph.ensures.wired in
     record {
       points_fit = subst (PointsFit p) (sym points_are) (points_fit p n.marks marks);
@@ -59,6 +58,10 @@ invariant_of-result c =
       asserts_fit = subst (λ ps. AssertsFit p ps c.in_ok-asserts.asserts) (sym points_are) (subst (AssertsFit p (points_of n.marks)) (sym asserts_are) (asserts_fit p n.marks marks));
       entries_fit = subst (EntriesFit p) (sym points_are) (entries_fit p n.marks marks);
       edges_lead = edges_lead p points edges wired;
+      points_are = points_are ∙ ap points_of marks;
+      asserts_are = asserts_are ∙ ap asserts_of marks;
+      edges_are = c.in_ok-graph.ensures.edges;
+      checks_are = c.in_ok-graph.ensures.checks;
       exits_return = exits_return p points edges wired;
       edges_listed = record {
         leaving = λ q h. c.in_ok-outgoing.ensures q (omega (arith, h, c.len-count.ensures)) ∙ ap (λ es. Some (leaving es q)) c.as_slice-4.ensures;

@@ -1,5 +1,5 @@
-use Rattle.std.proofs.Common.{true, false, ◌+◌, length, sym, ap, ◌∙◌, arith}
-use Rattle.std.proofs.lemmas.Bool.{and_parts}
+use Rattle.std.proofs.Common.{true, false, ◌+◌, length, sym, ap, ◌∙◌, arith, refl}
+use Rattle.std.proofs.lemmas.Bool.{and_parts, and_from}
 use Rattle.pas_program.specs.Checked.{numbers_in, scope_in, tables}
 use Rattle.pas_program.specs.Each.{each_expr}
 use Rattle.pas_program.specs.Typed.{hosted, is_of_host}
@@ -14,8 +14,8 @@ use Rattle.control_points.proofs.Sized.{size_of, statement_headed}
 use Rattle.control_points.proofs.Sizes.{sizes_both}
 use Rattle.control_points.proofs.scene.Scene.act.Goals as goal
 use Rattle.control_points.specs.Drawing.{plan_in}
-use Rattle.control_points.proofs.Followed.{followed_along}
-use Rattle.control_points.proofs.Laying.{if_none, if_own, if_some, own_at}
+use Rattle.control_points.proofs.Followed.{followed_along, followed_by_both}
+use Rattle.control_points.proofs.Laying.{if_none, if_own, if_some, own_at, case_own}
 use Rattle.control_points.proofs.scene.Scene.act.Goals.{in-None, in-Some}
 
 pub size-requires : goal.size-requires
@@ -175,10 +175,29 @@ returns-in-For-clause-exact c =
     let is = c.in-For.is ∙ sym (view.rolls-For c.in-For.control c.in-For.bound c.in-For.first c.in-For.down c.in-For.last c.in-For.body) in
     then_ok c.bounds.result c.bounds.ensures.exact (λ f. followed_along (own_at (plan_in c.args.self.now) c.args.s.now (Body-F.For c.in-For.control c.in-For.bound c.in-For.first c.in-For.down c.in-For.last c.in-For.body) is c.args.here c.args.stand.next) f)
 
-pub returns-in-Case-clause-exact : goal.returns-in-Case-clause-exact
-returns-in-Case-clause-exact c =
+pub no_arms-requires-clause-fits : goal.no_arms-requires-clause-fits
+no_arms-requires-clause-fits c =
+    let p = c.args.self.now.program.now in
+    let r = c.args.self.now.routine in
+    let s = c.args.s.now in
+    let f = c.in-Case in
+    let d = Body-F.Case f.of f.arms in
+    let is = f.is ∙ sym (view.rolls-Case f.of f.arms) in
+    record {
+      numbers = (and_parts (each_expr (numbers_in p) f.of) _ (rule_at s d is (numbers_in p) c.requires.numbers)).0;
+      types = and_from (hosted (tables p) f.of).fits true (and_parts (hosted (tables p) f.of).fits _ (types_at s d is (tables p) c.requires.types)).0 refl;
+      scopes = (and_parts (each_expr (scope_in p r) f.of) _ (rule_at s d is (scope_in p r) c.requires.scopes)).0;
+    }
+
+pub returns-in_ok-selector-in-Case-clause-graph : goal.returns-in_ok-selector-in-Case-clause-graph
+returns-in_ok-selector-in-Case-clause-graph c = then_ok c.no_arms.result c.no_arms.ensures.graph (λ g. weaker_in c.args.self.now _ _ (c.args.here + 1) _ g (omega arith))
+
+pub returns-in_ok-selector-in-Case-clause-exact : goal.returns-in_ok-selector-in-Case-clause-exact
+returns-in_ok-selector-in-Case-clause-exact c =
+    let plan = plan_in c.args.self.now in
     let is = c.in-Case.is ∙ sym (view.rolls-Case c.in-Case.of c.in-Case.arms) in
-    then_ok c.selector.result c.selector.ensures.exact (λ f. followed_along (own_at (plan_in c.args.self.now) c.args.s.now (Body-F.Case c.in-Case.of c.in-Case.arms) is c.args.here c.args.stand.next) f)
+    then_ok c.no_arms.result (rw c.as_slice-in-Case.ensures at c.no_arms.ensures.exact)
+    (λ f. followed_along (case_own plan c.in-Case.of c.in-Case.arms c.args.here c.args.stand.next ∙ own_at plan c.args.s.now (Body-F.Case c.in-Case.of c.in-Case.arms) is c.args.here c.args.stand.next) (followed_by_both c.in_ok-selector-in-Case.ensures.exact f))
 
 pub returns-in-Call-clause-exact : goal.returns-in-Call-clause-exact
 returns-in-Call-clause-exact c =

@@ -10,8 +10,6 @@ use Rattle.control_points.specs.declared.edge.Act.TheVariants as act
 use Rattle.control_points.proofs.scene.Scene.reads.Goals as goal
 use Rattle.control_points.proofs.scene.Scene.reads.Goals.{else-line, then-line}
 
-
-
 pub loop-access-preserved : goal.loop-access-preserved
 loop-access-preserved c =
     let plan = plan_in c.args.self.now in
