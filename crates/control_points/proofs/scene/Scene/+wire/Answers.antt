@@ -272,32 +272,20 @@ inner-returns-in-Write-clause-graph t c =
 
 pub inner-returns-in-Begin-clause-order : goal.inner-returns-in-Begin-clause-order
 inner-returns-in-Begin-clause-order t c =
-    let s = c.args.self.now in
-    let p = s.program.now in
     let x = c.args.s.now in
-    let zs = s.numbering.now.sizes in
     let d = Body-F.Begin c.in-Begin.body c.in-Begin.end in
     let is = c.in-Begin.is ∙ sym (view.rolls-Begin c.in-Begin.body c.in-Begin.end) in
-    let points = points_at x d is in
-    let calls = ap length (calls_at x d is) in
-    let action = action_at x d is in
     let sizes = ap length (sizes_at x d is) in
-    let inner = inner_sizes x d is zs c.args.stand.order c.requires.sizes in
     then_if c.sequence.result (rw c.as_slice.ensures at c.sequence.ensures.order) (λ k h. omega (arith, h, sizes))
 
 pub inner-returns-in-Begin-clause-graph : goal.inner-returns-in-Begin-clause-graph
 inner-returns-in-Begin-clause-graph t c =
     let s = c.args.self.now in
-    let p = s.program.now in
     let x = c.args.s.now in
-    let zs = s.numbering.now.sizes in
     let d = Body-F.Begin c.in-Begin.body c.in-Begin.end in
     let is = c.in-Begin.is ∙ sym (view.rolls-Begin c.in-Begin.body c.in-Begin.end) in
     let points = points_at x d is in
     let calls = ap length (calls_at x d is) in
-    let action = action_at x d is in
-    let sizes = ap length (sizes_at x d is) in
-    let inner = inner_sizes x d is zs c.args.stand.order c.requires.sizes in
     then_ok c.sequence.result (rw c.as_slice.ensures at c.sequence.ensures.graph) (λ h. weaker_in s _ _ _ _ h (omega (arith, points, calls, c.requires.here)))
 
 pub inner-arms-requires : goal.inner-arms-requires
@@ -311,7 +299,6 @@ inner-arms-requires t c =
     let points = points_at x d is in
     let calls = ap length (calls_at x d is) in
     let action = action_at x d is in
-    let sizes = ap length (sizes_at x d is) in
     let inner = inner_sizes x d is zs c.args.stand.order c.requires.sizes in
     let q = numbers_in p in
     let u = scope_in p s.routine in
@@ -350,32 +337,20 @@ inner-arms-requires t c =
 
 pub inner-returns-in-Case-clause-order : goal.inner-returns-in-Case-clause-order
 inner-returns-in-Case-clause-order t c =
-    let s = c.args.self.now in
-    let p = s.program.now in
     let x = c.args.s.now in
-    let zs = s.numbering.now.sizes in
     let d = Body-F.Case c.in-Case.of c.in-Case.arms in
     let is = c.in-Case.is ∙ sym (view.rolls-Case c.in-Case.of c.in-Case.arms) in
-    let points = points_at x d is in
-    let calls = ap length (calls_at x d is) in
-    let action = action_at x d is in
     let sizes = ap length (sizes_at x d is) in
-    let inner = inner_sizes x d is zs c.args.stand.order c.requires.sizes in
     then_if c.arms.result (rw c.as_slice-in-Case.ensures at c.arms.ensures.order) (λ k h. omega (arith, h, sizes))
 
 pub inner-returns-in-Case-clause-graph : goal.inner-returns-in-Case-clause-graph
 inner-returns-in-Case-clause-graph t c =
     let s = c.args.self.now in
-    let p = s.program.now in
     let x = c.args.s.now in
-    let zs = s.numbering.now.sizes in
     let d = Body-F.Case c.in-Case.of c.in-Case.arms in
     let is = c.in-Case.is ∙ sym (view.rolls-Case c.in-Case.of c.in-Case.arms) in
     let points = points_at x d is in
     let calls = ap length (calls_at x d is) in
-    let action = action_at x d is in
-    let sizes = ap length (sizes_at x d is) in
-    let inner = inner_sizes x d is zs c.args.stand.order c.requires.sizes in
     then_ok c.arms.result (rw c.as_slice-in-Case.ensures at c.arms.ensures.graph) (λ h. weaker_in s _ _ _ _ h (omega (arith, points, calls, c.requires.here)))
 
 pub inner-repeat-requires : goal.inner-repeat-requires
@@ -389,8 +364,6 @@ inner-repeat-requires t c =
     let points = points_at x d is in
     let calls = ap length (calls_at x d is) in
     let action = action_at x d is in
-    let sizes = ap length (sizes_at x d is) in
-    let inner = inner_sizes x d is zs c.args.stand.order c.requires.sizes in
     let q = numbers_in p in
     let u = scope_in p s.routine in
     let cond = c.in-Repeat.cond in
@@ -428,32 +401,20 @@ inner-repeat-requires t c =
 
 pub inner-returns-in-Repeat-clause-order : goal.inner-returns-in-Repeat-clause-order
 inner-returns-in-Repeat-clause-order t c =
-    let s = c.args.self.now in
-    let p = s.program.now in
     let x = c.args.s.now in
-    let zs = s.numbering.now.sizes in
     let d = Body-F.Repeat c.in-Repeat.body c.in-Repeat.at c.in-Repeat.cond in
     let is = c.in-Repeat.is ∙ sym (view.rolls-Repeat c.in-Repeat.body c.in-Repeat.at c.in-Repeat.cond) in
-    let points = points_at x d is in
-    let calls = ap length (calls_at x d is) in
-    let action = action_at x d is in
     let sizes = ap length (sizes_at x d is) in
-    let inner = inner_sizes x d is zs c.args.stand.order c.requires.sizes in
     then_if c.repeat.result (rw c.as_slice-in-Repeat.ensures at c.repeat.ensures.order) (λ k h. omega (arith, h, sizes))
 
 pub inner-returns-in-Repeat-clause-graph : goal.inner-returns-in-Repeat-clause-graph
 inner-returns-in-Repeat-clause-graph t c =
     let s = c.args.self.now in
-    let p = s.program.now in
     let x = c.args.s.now in
-    let zs = s.numbering.now.sizes in
     let d = Body-F.Repeat c.in-Repeat.body c.in-Repeat.at c.in-Repeat.cond in
     let is = c.in-Repeat.is ∙ sym (view.rolls-Repeat c.in-Repeat.body c.in-Repeat.at c.in-Repeat.cond) in
     let points = points_at x d is in
     let calls = ap length (calls_at x d is) in
-    let action = action_at x d is in
-    let sizes = ap length (sizes_at x d is) in
-    let inner = inner_sizes x d is zs c.args.stand.order c.requires.sizes in
     then_ok c.repeat.result (rw c.as_slice-in-Repeat.ensures at c.repeat.ensures.graph) (λ h. weaker_in s _ _ _ _ h (omega (arith, points, calls, c.requires.here)))
 
 pub inner-for_loop-requires : goal.inner-for_loop-requires
@@ -467,7 +428,6 @@ inner-for_loop-requires t c =
     let points = points_at x d is in
     let calls = ap length (calls_at x d is) in
     let action = action_at x d is in
-    let sizes = ap length (sizes_at x d is) in
     let inner = inner_sizes x d is zs c.args.stand.order c.requires.sizes in
     let f = c.in-For in
     let fit = for_fits p s.routine x f.control f.bound f.first f.down f.last f.body f.is c.requires.numbers c.requires.types c.requires.scopes in (
@@ -507,32 +467,20 @@ inner-for_loop-requires t c =
 
 pub inner-returns-in-For-clause-order : goal.inner-returns-in-For-clause-order
 inner-returns-in-For-clause-order t c =
-    let s = c.args.self.now in
-    let p = s.program.now in
     let x = c.args.s.now in
-    let zs = s.numbering.now.sizes in
     let d = Body-F.For c.in-For.control c.in-For.bound c.in-For.first c.in-For.down c.in-For.last c.in-For.body in
     let is = c.in-For.is ∙ sym (view.rolls-For c.in-For.control c.in-For.bound c.in-For.first c.in-For.down c.in-For.last c.in-For.body) in
-    let points = points_at x d is in
-    let calls = ap length (calls_at x d is) in
-    let action = action_at x d is in
     let sizes = ap length (sizes_at x d is) in
-    let inner = inner_sizes x d is zs c.args.stand.order c.requires.sizes in
     then_if c.for_loop.result (rw c.get-in-For.ensures at c.for_loop.ensures.order) (λ k h. omega (arith, h, sizes, length-append (statement_extent c.in-For.body).sizes []))
 
 pub inner-returns-in-For-clause-graph : goal.inner-returns-in-For-clause-graph
 inner-returns-in-For-clause-graph t c =
     let s = c.args.self.now in
-    let p = s.program.now in
     let x = c.args.s.now in
-    let zs = s.numbering.now.sizes in
     let d = Body-F.For c.in-For.control c.in-For.bound c.in-For.first c.in-For.down c.in-For.last c.in-For.body in
     let is = c.in-For.is ∙ sym (view.rolls-For c.in-For.control c.in-For.bound c.in-For.first c.in-For.down c.in-For.last c.in-For.body) in
     let points = points_at x d is in
     let calls = ap length (calls_at x d is) in
-    let action = action_at x d is in
-    let sizes = ap length (sizes_at x d is) in
-    let inner = inner_sizes x d is zs c.args.stand.order c.requires.sizes in
     then_ok c.for_loop.result (rw c.get-in-For.ensures at c.for_loop.ensures.graph) (λ h. weaker_in s _ _ _ _ h (omega (arith, points, calls, c.requires.here)))
 
 pub for_loop-size-requires : goal.for_loop-size-requires
@@ -545,8 +493,6 @@ for_loop-size-requires t c =
 pub for_loop-overflow_add-step : goal.for_loop-overflow_add-step
 for_loop-overflow_add-step t c =
     let s = c.args.self.now in
-    let body = c.args.body.now in
-    let found = size_of s.numbering.now.sizes (c.args.stand.order + 1) (statement_extent body) (statement_headed body) c.requires.sizes in
     omega (arith, c.requires.room, exit_fits s)
 
 pub for_loop-overflow_add-stand : goal.for_loop-overflow_add-stand
@@ -573,15 +519,11 @@ for_loop-overflow_add-inside t c =
 pub for_loop-overflow_add-inside-2 : goal.for_loop-overflow_add-inside-2
 for_loop-overflow_add-inside-2 t c =
     let s = c.args.self.now in
-    let body = c.args.body.now in
-    let found = size_of s.numbering.now.sizes (c.args.stand.order + 1) (statement_extent body) (statement_headed body) c.requires.sizes in
     omega (arith, c.requires.room, exit_fits s)
 
 pub for_loop-overflow_add-here : goal.for_loop-overflow_add-here
 for_loop-overflow_add-here t c =
     let s = c.args.self.now in
-    let body = c.args.body.now in
-    let found = size_of s.numbering.now.sizes (c.args.stand.order + 1) (statement_extent body) (statement_headed body) c.requires.sizes in
     omega (arith, c.requires.room, exit_fits s)
 
 pub for_loop-statement-requires : goal.for_loop-statement-requires
@@ -645,9 +587,6 @@ repeat-overflow_add-until t c =
     let body = c.args.body.now in
     let cond = c.args.cond.now in
     let found = size_of zs c.args.stand.order (repeat_extent body cond) ((both (statements_extent body) (extent_of (suc (length (expr_calls cond))))).sizes, refl) c.requires.sizes in
-    let sites = c.calls_in_expr.new.sites in
-    let same : sites_of sites.items ≡ expr_calls cond = c.in_ok-calls_in_expr.ensures ∙ ap (λ xs. sites_of xs ++ expr_calls cond) c.new-sites.ensures.items in
-    let many : length sites.items ≡ length (expr_calls cond) = sym (length-map sites.items site_of) ∙ ap length same in
     omega (arith, found.1, c.size.ensures, c.requires.stands.room, exit_fits s)
 
 pub repeat-overflow_sub-until : goal.repeat-overflow_sub-until
@@ -657,9 +596,6 @@ repeat-overflow_sub-until t c =
     let body = c.args.body.now in
     let cond = c.args.cond.now in
     let found = size_of zs c.args.stand.order (repeat_extent body cond) ((both (statements_extent body) (extent_of (suc (length (expr_calls cond))))).sizes, refl) c.requires.sizes in
-    let sites = c.calls_in_expr.new.sites in
-    let same : sites_of sites.items ≡ expr_calls cond = c.in_ok-calls_in_expr.ensures ∙ ap (λ xs. sites_of xs ++ expr_calls cond) c.new-sites.ensures.items in
-    let many : length sites.items ≡ length (expr_calls cond) = sym (length-map sites.items site_of) ∙ ap length same in
     omega (arith, found.1, c.size.ensures)
 
 pub repeat-overflow_cast-until : goal.repeat-overflow_cast-until
@@ -693,21 +629,11 @@ repeat-overflow_add-inside t c =
     let body = c.args.body.now in
     let cond = c.args.cond.now in
     let found = size_of zs c.args.stand.order (repeat_extent body cond) ((both (statements_extent body) (extent_of (suc (length (expr_calls cond))))).sizes, refl) c.requires.sizes in
-    let sites = c.calls_in_expr.new.sites in
-    let same : sites_of sites.items ≡ expr_calls cond = c.in_ok-calls_in_expr.ensures ∙ ap (λ xs. sites_of xs ++ expr_calls cond) c.new-sites.ensures.items in
-    let many : length sites.items ≡ length (expr_calls cond) = sym (length-map sites.items site_of) ∙ ap length same in
     omega (arith, found.0, s.numbering.now.sizes_few)
 
 pub repeat-overflow_add-inside-2 : goal.repeat-overflow_add-inside-2
 repeat-overflow_add-inside-2 t c =
     let s = c.args.self.now in
-    let zs = s.numbering.now.sizes in
-    let body = c.args.body.now in
-    let cond = c.args.cond.now in
-    let found = size_of zs c.args.stand.order (repeat_extent body cond) ((both (statements_extent body) (extent_of (suc (length (expr_calls cond))))).sizes, refl) c.requires.sizes in
-    let sites = c.calls_in_expr.new.sites in
-    let same : sites_of sites.items ≡ expr_calls cond = c.in_ok-calls_in_expr.ensures ∙ ap (λ xs. sites_of xs ++ expr_calls cond) c.new-sites.ensures.items in
-    let many : length sites.items ≡ length (expr_calls cond) = sym (length-map sites.items site_of) ∙ ap length same in
     omega (arith, c.requires.stands.room, exit_fits s)
 
 pub repeat-sequence-requires : goal.repeat-sequence-requires
@@ -742,13 +668,9 @@ repeat-sequence-requires t c =
 pub repeat-calls-requires-clause-fits : goal.repeat-calls-requires-clause-fits
 repeat-calls-requires-clause-fits t c =
     let s = c.args.self.now in
-    let zs = s.numbering.now.sizes in
-    let body = c.args.body.now in
     let cond = c.args.cond.now in
-    let found = size_of zs c.args.stand.order (repeat_extent body cond) ((both (statements_extent body) (extent_of (suc (length (expr_calls cond))))).sizes, refl) c.requires.sizes in
     let sites = c.calls_in_expr.new.sites in
     let same : sites_of sites.items ≡ expr_calls cond = c.in_ok-calls_in_expr.ensures ∙ ap (λ xs. sites_of xs ++ expr_calls cond) c.new-sites.ensures.items in
-    let many : length sites.items ≡ length (expr_calls cond) = sym (length-map sites.items site_of) ∙ ap length same in
     subst (SitesFit s.program.now s.routine) (sym (ap sites_of c.as_slice.ensures.value ∙ same)) c.requires.fits
 
 pub repeat-calls-requires-clause-low : goal.repeat-calls-requires-clause-low
@@ -873,14 +795,7 @@ repeat-condition-requires-clause-graph t c =
 
 pub repeat-returns-clause-order : goal.repeat-returns-clause-order
 repeat-returns-clause-order t c =
-    let s = c.args.self.now in
-    let zs = s.numbering.now.sizes in
     let body = c.args.body.now in
-    let cond = c.args.cond.now in
-    let found = size_of zs c.args.stand.order (repeat_extent body cond) ((both (statements_extent body) (extent_of (suc (length (expr_calls cond))))).sizes, refl) c.requires.sizes in
-    let sites = c.calls_in_expr.new.sites in
-    let same : sites_of sites.items ≡ expr_calls cond = c.in_ok-calls_in_expr.ensures ∙ ap (λ xs. sites_of xs ++ expr_calls cond) c.new-sites.ensures.items in
-    let many : length sites.items ≡ length (expr_calls cond) = sym (length-map sites.items site_of) ∙ ap length same in
     omega (arith, c.in_ok-order.ensures.order, length-append (statements_extent body).sizes [])
 
 pub repeat-returns-clause-graph : goal.repeat-returns-clause-graph
@@ -906,7 +821,6 @@ inner-statement-requires-in-While t c =
     let points = points_at x d is in
     let calls = ap length (calls_at x d is) in
     let action = action_at x d is in
-    let sizes = ap length (sizes_at x d is) in
     let inner = inner_sizes x d is zs c.args.stand.order c.requires.sizes in
     let q = numbers_in p in
     let u = scope_in p s.routine in
@@ -932,52 +846,33 @@ inner-statement-requires-in-While t c =
 
 pub inner-returns-in-While-clause-order : goal.inner-returns-in-While-clause-order
 inner-returns-in-While-clause-order t c =
-    let s = c.args.self.now in
-    let p = s.program.now in
     let x = c.args.s.now in
-    let zs = s.numbering.now.sizes in
     let d = Body-F.While c.in-While.cond c.in-While.body in
     let is = c.in-While.is ∙ sym (view.rolls-While c.in-While.cond c.in-While.body) in
-    let points = points_at x d is in
-    let calls = ap length (calls_at x d is) in
-    let action = action_at x d is in
     let sizes = ap length (sizes_at x d is) in
-    let inner = inner_sizes x d is zs c.args.stand.order c.requires.sizes in
     then_if c.statement-in-While.result (rw c.get-in-While.ensures at c.statement-in-While.ensures.order) (λ k h. omega (arith, h, sizes))
 
 pub inner-returns-in-While-clause-graph : goal.inner-returns-in-While-clause-graph
 inner-returns-in-While-clause-graph t c =
     let s = c.args.self.now in
-    let p = s.program.now in
     let x = c.args.s.now in
-    let zs = s.numbering.now.sizes in
     let d = Body-F.While c.in-While.cond c.in-While.body in
     let is = c.in-While.is ∙ sym (view.rolls-While c.in-While.cond c.in-While.body) in
     let points = points_at x d is in
     let calls = ap length (calls_at x d is) in
-    let action = action_at x d is in
-    let sizes = ap length (sizes_at x d is) in
-    let inner = inner_sizes x d is zs c.args.stand.order c.requires.sizes in
     then_ok c.statement-in-While.result (rw c.get-in-While.ensures at c.statement-in-While.ensures.graph) (λ h. weaker_in s _ _ _ _ h (omega (arith, points, calls, c.requires.here)))
 
 pub inner-size-requires : goal.inner-size-requires
 inner-size-requires t c =
     let s = c.args.self.now in
-    let p = s.program.now in
     let x = c.args.s.now in
     let zs = s.numbering.now.sizes in
     let f = c.in-If in
     let d = Body-F.If f.cond f.yes f.no in
     let is = f.is ∙ sym (view.rolls-If f.cond f.yes f.no) in
-    let points = points_at x d is in
-    let calls = ap length (calls_at x d is) in
-    let action = action_at x d is in
-    let sizes = ap length (sizes_at x d is) in
     let inner = inner_sizes x d is zs c.args.stand.order c.requires.sizes in
     let e = if_extent_is f.cond f.yes f.no in
     let more = second_or (extent_of 0) (option_map statement_extent f.no) in
-    let e_points = ap (λ (y : Extent). y.points) e in
-    let e_sizes = ap (λ (y : Extent). length y.sizes) e in
     let split = sizes_both zs (c.args.stand.order + 1) (statement_extent f.yes).sizes more.sizes (subst (λ (y : Extent). Begins y.sizes (drop (c.args.stand.order + 1) zs)) e inner) in
     let found = size_of zs (c.args.stand.order + 1) (statement_extent f.yes) (statement_headed f.yes) split.0 in
     found.0
@@ -985,7 +880,6 @@ inner-size-requires t c =
 pub inner-overflow_add-second : goal.inner-overflow_add-second
 inner-overflow_add-second t c =
     let s = c.args.self.now in
-    let p = s.program.now in
     let x = c.args.s.now in
     let zs = s.numbering.now.sizes in
     let f = c.in-If in
@@ -993,13 +887,10 @@ inner-overflow_add-second t c =
     let is = f.is ∙ sym (view.rolls-If f.cond f.yes f.no) in
     let points = points_at x d is in
     let calls = ap length (calls_at x d is) in
-    let action = action_at x d is in
-    let sizes = ap length (sizes_at x d is) in
     let inner = inner_sizes x d is zs c.args.stand.order c.requires.sizes in
     let e = if_extent_is f.cond f.yes f.no in
     let more = second_or (extent_of 0) (option_map statement_extent f.no) in
     let e_points = ap (λ (y : Extent). y.points) e in
-    let e_sizes = ap (λ (y : Extent). length y.sizes) e in
     let split = sizes_both zs (c.args.stand.order + 1) (statement_extent f.yes).sizes more.sizes (subst (λ (y : Extent). Begins y.sizes (drop (c.args.stand.order + 1) zs)) e inner) in
     let found = size_of zs (c.args.stand.order + 1) (statement_extent f.yes) (statement_headed f.yes) split.0 in
     omega (arith, found.1, c.size.ensures, points, e_points, calls, c.requires.here, c.requires.stands.room, exit_fits s)
@@ -1016,14 +907,11 @@ inner-statement-requires t c =
     let points = points_at x d is in
     let calls = ap length (calls_at x d is) in
     let action = action_at x d is in
-    let sizes = ap length (sizes_at x d is) in
     let inner = inner_sizes x d is zs c.args.stand.order c.requires.sizes in
     let e = if_extent_is f.cond f.yes f.no in
     let more = second_or (extent_of 0) (option_map statement_extent f.no) in
     let e_points = ap (λ (y : Extent). y.points) e in
-    let e_sizes = ap (λ (y : Extent). length y.sizes) e in
     let split = sizes_both zs (c.args.stand.order + 1) (statement_extent f.yes).sizes more.sizes (subst (λ (y : Extent). Begins y.sizes (drop (c.args.stand.order + 1) zs)) e inner) in
-    let found = size_of zs (c.args.stand.order + 1) (statement_extent f.yes) (statement_headed f.yes) split.0 in
     let n = rule_at x d is (numbers_in p) c.requires.numbers in
     let ty = types_at x d is (tables p) c.requires.types in
     let sc = rule_at x d is (scope_in p s.routine) c.requires.scopes in (
@@ -1057,13 +945,10 @@ inner-other-requires t c =
     let is = f.is ∙ sym (view.rolls-If f.cond f.yes f.no) in
     let points = points_at x d is in
     let calls = ap length (calls_at x d is) in
-    let action = action_at x d is in
-    let sizes = ap length (sizes_at x d is) in
     let inner = inner_sizes x d is zs c.args.stand.order c.requires.sizes in
     let e = if_extent_is f.cond f.yes f.no in
     let more = second_or (extent_of 0) (option_map statement_extent f.no) in
     let e_points = ap (λ (y : Extent). y.points) e in
-    let e_sizes = ap (λ (y : Extent). length y.sizes) e in
     let split = sizes_both zs (c.args.stand.order + 1) (statement_extent f.yes).sizes more.sizes (subst (λ (y : Extent). Begins y.sizes (drop (c.args.stand.order + 1) zs)) e inner) in
     let found = size_of zs (c.args.stand.order + 1) (statement_extent f.yes) (statement_headed f.yes) split.0 in
     let n = rule_at x d is (numbers_in p) c.requires.numbers in
@@ -1092,7 +977,6 @@ inner-other-requires t c =
 pub inner-returns-in_ok-order-in-If-clause-graph : goal.inner-returns-in_ok-order-in-If-clause-graph
 inner-returns-in_ok-order-in-If-clause-graph t c =
     let s = c.args.self.now in
-    let p = s.program.now in
     let x = c.args.s.now in
     let zs = s.numbering.now.sizes in
     let f = c.in-If in
@@ -1100,13 +984,10 @@ inner-returns-in_ok-order-in-If-clause-graph t c =
     let is = f.is ∙ sym (view.rolls-If f.cond f.yes f.no) in
     let points = points_at x d is in
     let calls = ap length (calls_at x d is) in
-    let action = action_at x d is in
-    let sizes = ap length (sizes_at x d is) in
     let inner = inner_sizes x d is zs c.args.stand.order c.requires.sizes in
     let e = if_extent_is f.cond f.yes f.no in
     let more = second_or (extent_of 0) (option_map statement_extent f.no) in
     let e_points = ap (λ (y : Extent). y.points) e in
-    let e_sizes = ap (λ (y : Extent). length y.sizes) e in
     let split = sizes_both zs (c.args.stand.order + 1) (statement_extent f.yes).sizes more.sizes (subst (λ (y : Extent). Begins y.sizes (drop (c.args.stand.order + 1) zs)) e inner) in
     let found = size_of zs (c.args.stand.order + 1) (statement_extent f.yes) (statement_headed f.yes) split.0 in
     then_ok c.other.result c.other.ensures.graph (λ h. weaker_in s _ _ _ _ h (omega (arith, found.1, c.size.ensures, points, e_points, calls, c.requires.here)))
