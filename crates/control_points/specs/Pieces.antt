@@ -120,7 +120,7 @@ module _ (plan : Plan) where
   writes [] end source next = way source end next
   writes (item ∷ items) end source next = both (write item source) (writes items end (source + write_points item) next)
 
--- A `case` without arms has one way, for no constant, so that an edge leaves its point. In a checked program each has an arm.
+-- A `case` without arms has one way, for no constant, so that an edge leaves its point. The grammar gives each an arm.
 abbrev pub no_arms : {A : Type 0} → List A → Expr → ℕ → ℕ → Piece
 no_arms [] selector here next = way here (act.Arm selector []) next
 no_arms (arm ∷ arms) selector here next = nothing

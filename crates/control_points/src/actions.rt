@@ -350,8 +350,7 @@ impl<'a> Scene<'a> {
         )
     }
 
-    /// The way on from a `case` without arms, for no constant, so that an edge leaves its point. In a checked program each
-    /// has an arm.
+    /// The way on from a `case` without arms, for no constant, so that an edge leaves its point. The grammar gives each an arm.
     pub fn no_arms(
         &self,
         arms: &[Arm],
