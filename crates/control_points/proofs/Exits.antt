@@ -160,5 +160,5 @@ module _ (program : Program) (marks : Marks) (is : marks ≡ routines_marks 0 pr
 
 pub flow_pairs : (f : Flow) → EdgesPair (length f.program.routines - 1) f.points f.edges
 flow_pairs f =
-    let exits = subst (λ ps. ExitsReturn ps f.edges) f.points_are f.exits_return in
-    subst (λ ps. EdgesPair (length f.program.routines - 1) ps f.edges) (sym f.points_are) (edges_pair f.program (routines_marks 0 f.program.routines) refl (starts 0 0 f.program.routines) refl f.edges exits f.edges_are)
+    let exits = subst (λ ps. ExitsReturn ps f.edges) f.exact.points_are f.exits_return in
+    subst (λ ps. EdgesPair (length f.program.routines - 1) ps f.edges) (sym f.exact.points_are) (edges_pair f.program (routines_marks 0 f.program.routines) refl (starts 0 0 f.program.routines) refl f.edges exits f.exact.edges_are)

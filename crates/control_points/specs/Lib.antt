@@ -7,6 +7,7 @@ pub mod Checking
 pub mod Drawing
 pub mod Edges
 pub mod Evaluation
+pub mod Exact
 pub mod Extents
 pub mod Finding
 pub mod Fits

@@ -1,10 +1,8 @@
 ghost use Rattle.std.specs.Prelude.{◌≡◌, ◌<◌, length, slice_get};
 ghost use Rattle.control_points.specs.Chart.{leaving, arriving};
-ghost use Rattle.control_points.specs.Edges.{checks_of, edges_of};
+ghost use Rattle.control_points.specs.Exact.{IsExact};
 ghost use Rattle.control_points.specs.Fits.{PointsFit, EdgesFit, CallsReturn, ChecksFit, AssertsFit, EdgesListed};
 ghost use Rattle.control_points.specs.Leading.{EntriesFit, EdgesLead, ExitsReturn};
-ghost use Rattle.control_points.specs.Marks.{routines_marks};
-ghost use Rattle.control_points.specs.Wired.{asserts_of, points_of};
 
 use crate::check::Check;
 use crate::edge::Edge;
@@ -35,10 +33,7 @@ pub struct Flow {
     pub ghost entries_fit: { EntriesFit program points },
     pub ghost edges_lead: { EdgesLead points edges },
     pub ghost exits_return: { ExitsReturn points edges },
-    pub ghost points_are: { points ≡ points_of (routines_marks 0 program.routines) },
-    pub ghost asserts_are: { asserts ≡ asserts_of (routines_marks 0 program.routines) },
-    pub ghost edges_are: { edges ≡ edges_of program },
-    pub ghost checks_are: { checks ≡ checks_of program },
+    pub ghost exact: { IsExact program points asserts edges checks },
     pub ghost edges_listed: { EdgesListed points edges outgoing incoming },
 }
 

@@ -58,10 +58,12 @@ invariant_of-result c =
       asserts_fit = subst (λ ps. AssertsFit p ps c.in_ok-asserts.asserts) (sym points_are) (subst (AssertsFit p (points_of n.marks)) (sym asserts_are) (asserts_fit p n.marks marks));
       entries_fit = subst (EntriesFit p) (sym points_are) (entries_fit p n.marks marks);
       edges_lead = edges_lead p points edges wired;
-      points_are = points_are ∙ ap points_of marks;
-      asserts_are = asserts_are ∙ ap asserts_of marks;
-      edges_are = c.in_ok-graph.ensures.edges;
-      checks_are = c.in_ok-graph.ensures.checks;
+      exact = record {
+        points_are = points_are ∙ ap points_of marks;
+        asserts_are = asserts_are ∙ ap asserts_of marks;
+        edges_are = c.in_ok-graph.ensures.edges;
+        checks_are = c.in_ok-graph.ensures.checks;
+      };
       exits_return = exits_return p points edges wired;
       edges_listed = record {
         leaving = λ q h. c.in_ok-outgoing.ensures q (omega (arith, h, c.len-count.ensures)) ∙ ap (λ es. Some (leaving es q)) c.as_slice-4.ensures;
