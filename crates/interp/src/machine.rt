@@ -1,9 +1,12 @@
-ghost use Rattle.std.specs.Prelude.{◌≡◌};
+ghost use Rattle.std.specs.Prelude.{◌≡◌, IfOk};
 ghost use Rattle.control_points.specs.Chart.{entry_of, is_entry};
-ghost use Rattle.control_points.specs.Leading.{EntriesFit, EdgesLead};
-ghost use Rattle.control_points.specs.Runs.{IsInput};
+ghost use Rattle.control_points.specs.Flows.{chart_of};
+ghost use Rattle.control_points.specs.Runs.{IsInput, start};
+ghost use Rattle.control_points.specs.Steps.{is_halted, next};
 ghost use Rattle.interp.specs.Layouts.{IsLayout};
 ghost use Rattle.interp.specs.Machines.{AreFrames, AreItems, AreLinks, AreScalars};
+ghost use Rattle.interp.specs.Meant.{InState, IsStep};
+ghost use Rattle.interp.specs.Standing.{StandsFor};
 
 use crate::frame::{Extent, Frame};
 use crate::layout::Layout;
@@ -36,7 +39,6 @@ pub struct Machine<'a> {
     /// The scalars of the other variables of all activations. What is undefined has no number.
     pub(crate) scalars: Vec<Option<i32>>,
     pub(crate) output: Vec<u8>,
-    pub(crate) ghost leads: { EdgesLead flow.now.points flow.now.edges },
     pub(crate) ghost laid_out: { IsLayout flow.now.program layout },
     pub(crate) ghost input: { AreItems items.now },
     pub(crate) ghost framed: { AreFrames flow.now frames.items },
@@ -48,8 +50,8 @@ impl<'a> Machine<'a> {
     /// The program's block at its entry, with nothing stored.
     pub fn new(alloc: Global, flow: &'a Flow, items: &'a [Item]) -> Result<Machine<'a>, AllocError>
         requires input { IsInput items.now }
-        requires entries { EntriesFit flow.now.program flow.now.points }
-        requires leads { EdgesLead flow.now.points flow.now.edges }
+        ensures flow { IfOk result (λ m. m.flow.now ≡ flow.now) }
+        ensures started { IfOk result (λ m. StandsFor m (start (chart_of flow.now) items.now)) }
     {
         let layout = Layout::new(alloc, flow.program())?;
         let routine = flow.program().routines.len() - 1;
@@ -84,7 +86,10 @@ impl<'a> Machine<'a> {
     /// # Errors
     ///
     /// Where memory is lacking, and the machine is as it was.
-    pub fn step(&mut self) -> Result<Progress, AllocError> {
+    pub fn step(&mut self) -> Result<Progress, AllocError>
+        ensures flow { self.new.flow.now ≡ self.old.flow.now }
+        ensures exact { InState self.old (λ s. IsStep (next (chart_of self.old.flow.now) s) s self.new result) }
+    {
         if self.is_halted() {
             return Ok(Progress::Halted);
         }
@@ -96,17 +101,23 @@ impl<'a> Machine<'a> {
     }
 
     /// Whether it stands at the exit of the program's block, which is the last point.
-    fn is_halted(&self) -> bool {
+    fn is_halted(&self) -> bool
+        ensures exact { InState self.now (λ s. is_halted (chart_of self.now.flow.now) s.stack ≡ result) }
+    {
         self.frames.len() == 1 && self.frames[0].point == self.flow.points().len() - 1
     }
 
     /// The output, when the run is not to go on.
-    pub(crate) fn into_output(self) -> Vec<u8> {
+    pub(crate) fn into_output(self) -> Vec<u8>
+        ensures { result ≡ self.output }
+    {
         self.output
     }
 
     /// The output so far.
-    pub fn output(&self) -> &[u8] {
+    pub fn output(&self) -> &[u8]
+        ensures { result.now ≡ self.now.output.items }
+    {
         self.output.as_slice()
     }
 }

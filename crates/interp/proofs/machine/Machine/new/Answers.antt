@@ -34,10 +34,9 @@ invariant_of-result c =
     let links = c.in_ok-links.ensures.items_if_clones_equal (λ y h. h) in
     let long : length c.in_ok-links.links.items ≡ c.index-extent.result.now.links = ap length links ∙ length-replicate {A = ℕ} c.index-extent.result.now.links 0 in
     record {
-      leads = c.requires.leads;
       laid_out = laid;
       input = input_items c.args.items.now c.requires.input;
-      framed = subst (AreFrames f) (sym frames) (first_frames f r c.entry_of.result w.0 last w.1 (ap (routine_at f.points) c.entry_of.ensures ∙ c.requires.entries.entry r n));
+      framed = subst (AreFrames f) (sym frames) (first_frames f r c.entry_of.result w.0 last w.1 (ap (routine_at f.points) c.entry_of.ensures ∙ f.entries_fit.entry r n));
       linked = subst (λ xs. AreLinks p xs c.in_ok-links.links.items) (sym frames)
           (first_links f r c.entry_of.result w.0 last w.1 c.in_ok-links.links.items (omega (arith, long, ap (λ (x : Extent). x.links) extent)));
       stored = subst (λ xs. AreScalars p xs c.resize.new.self.items) (sym frames)
