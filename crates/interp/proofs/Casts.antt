@@ -11,6 +11,9 @@ use mir.Val.{of_z, to_z}
 pub number_cast : (z : ℤ) → IsNumber z → IsNumber (to_z w32 (of_z w32 z))
 number_cast z h = let low = h.0 in let high = h.1 in subst IsNumber (sym (to_z-of_z w32 z (search (rules, ints)))) h
 
+pub number_kept : (z : ℤ) → IsNumber z → z ≡ to_z w32 (of_z w32 z)
+number_kept z h = let low = h.0 in let high = h.1 in sym (to_z-of_z w32 z (search (rules, ints)))
+
 -- what passes a check is what was given to it
 pub checked_is : (b : Bool) (k : Kind) (at : ℕ) (x y : ℤ) → ◌≡◌ {A = Result ℤ Fault} (Ok y) (checked b k at x) → x ≡ y
 checked_is true k at x y h = cc

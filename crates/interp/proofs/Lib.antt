@@ -4,6 +4,7 @@ pub mod Asking
 pub mod Called
 pub mod Casts
 pub mod Chains
+pub mod Deciding
 pub mod Edges
 pub mod Forms
 pub mod Frames

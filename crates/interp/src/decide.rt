@@ -21,7 +21,7 @@ ghost use Rattle.control_points.specs.Steps.{selector_of};
 ghost use Rattle.control_points.specs.Storage.{whole};
 ghost use Rattle.control_points.specs.Input as input;
 ghost use Rattle.std.specs.Option.{option_map};
-ghost use Rattle.interp.specs.Deeds.{AreSafe, IsAsked, IsChange, IsDeedOf, IsOwn, LandsAt, top_call};
+ghost use Rattle.interp.specs.Deeds.{AreSafe, IsAsked, IsChange, IsDeedOf, IsOwn, LandsAt, is_function, result_in, top_call};
 ghost use Rattle.interp.specs.Meant.{InState, IsChangeOf, IsDecided, IsFirst, bytes_of, text_of, view_in};
 ghost use Rattle.interp.specs.Machines.{AreItems, top_of, top_point, top_routine};
 
@@ -222,7 +222,7 @@ impl<'a> Machine<'a> {
     fn lands(&self, items: &'a [Item], output: Option<Output<'a>>) -> Decision<'a>
         requires { AreItems items.now }
         ensures safe { AreSafe self.now.flow.now.program self.now.frames.items (top_of self.now.frames.items) result }
-        ensures exact { (k : ℕ) → InState self.now (λ s. IsDecided self.now s k (Ok (Some (record { onward = at_depth (top_depth s.stack); changes = []; items = items.now; output = s.output ++ bytes_of output }))) result) }
+        ensures exact { (k : ℕ) → InState self.now (λ s. IsDecided self.now s k (Ok (Some (record { onward = at_depth (top_depth s.stack); changes = []; items = items.now; output = s.output ++ bytes_of output.entry }))) result) }
     {
         Ok(Some(Deed::Lands(Effect {
             depth: self.frames.len() - 1,
@@ -306,8 +306,9 @@ impl<'a> Machine<'a> {
         }
     }
 
-    /// The result of the latest activation, which must be defined at the exit.
+    /// The result of the latest activation, which is of a function. It must be defined at the exit.
     fn result(&self, at: u32) -> Result<i32, Fault>
+        requires { is_function (tables self.now.flow.now.program) (top_routine self.now.frames.items) ≡ true }
         ensures number { IfOk result IsNumber }
         ensures exact { InState self.now (λ s. meaning.result_value at (s.store (whole (top_depth s.stack) (meaning.result_of (chart_of self.now.flow.now) s.stack))) ≡ result) }
     {
@@ -330,6 +331,7 @@ impl<'a> Machine<'a> {
     /// The variable for the result of the latest activation's routine.
     fn result_variable(&self) -> Option<u32>
         ensures result_variable { IfSome result (IsOwn self.now.flow.now.program self.now.frames.items (top_of self.now.frames.items)) }
+        ensures is { result ≡ result_in (tables self.now.flow.now.program) (top_routine self.now.frames.items) }
     {
         let flow = self.flow;
         flow.program.routines.get(self.top().routine)?.result

@@ -1,0 +1,69 @@
+-- What an action comes to in a state that the machine is in: of its parts, of which each gives a value or the same error.
+use Rattle.std.proofs.Common.{◌≡◌, ℕ, ◌-◌, ◌<◌, ◌≤◌, true, List, [], ◌∷◌, length, refl, sym, ap, ◌∙◌, subst, arith, ℤ, Option, Some, None, Result, Ok, Err}
+use Rattle.std.specs.List.{slice_get}
+use Rattle.std.specs.Option.{option_and_then, option_map, unwrap_or}
+use Rattle.std.proofs.lemmas.Bool.{true≢false}
+use Rattle.std.proofs.lemmas.Option.{slice_get_within}
+use Rattle.pas_program.specs.declared.program.Program.{Program}
+use Rattle.pas_program.specs.declared.variable.VarDef.{VarDef}
+use Rattle.pas_program.specs.Checked.{tables}
+use Rattle.pas_program.specs.Typed.{type_of_var}
+use Rattle.pas_program.specs.Types.{is_scalar}
+use Rattle.control_points.specs.declared.fault.Fault.{Fault}
+use Rattle.control_points.specs.Actions.{Outcome, top_depth}
+use Rattle.control_points.specs.Evaluation.{Answer, Spot, defined, then_with, var_type}
+use Rattle.control_points.specs.States.{State}
+use Rattle.control_points.specs.Storage.{Place}
+use Rattle.interp.specs.declared.decide.Deed.{Deed}
+use Rattle.interp.specs.declared.frame.Frame.{Frame}
+use Rattle.interp.specs.declared.machine.Machine.{Machine}
+use Rattle.interp.specs.Machines.{top_of}
+use Rattle.interp.specs.Meant.{IsDecided, IsScalarAt, IsSpot}
+use Rattle.interp.specs.Places.{Lies}
+use Rattle.interp.specs.Standing.{StandsFor, content}
+use Rattle.interp.proofs.Addresses.{var_type_is}
+
+-- the depth of the latest activation
+pub top_is_top : (m : Machine) (s : State) → StandsFor m s → top_depth s.stack ≡ top_of m.frames.items
+top_is_top m s h = ap (λ n. n - 1) h.stack.height
+
+-- ---- places
+
+pub lies_below : (p : Program) (frames : List Frame) (q : Place) (a t : ℕ) → Lies p frames q a t → q.depth ≤ top_of frames
+lies_below p frames q a t l = let w = slice_get_within frames q.depth l.frame l.activation in omega (arith, w)
+
+pub scalar_at : (p : Program) (frames : List Frame) (q : Place) (a t : ℕ) → Lies p frames q a t → is_scalar (slice_get p.types t) ≡ true → IsScalarAt p frames (top_of frames) q a
+scalar_at p frames q a t l h = record { of_type = t; lies = l; scalar = h; below = lies_below p frames q a t l }
+
+-- the type of a scalar variable
+pub scalar_type : (p : Program) (v : ℕ) → is_scalar (type_of_var (tables p) v) ≡ true → is_scalar (slice_get p.types (var_type (tables p) v)) ≡ true
+scalar_type p v h = by_var (slice_get p.vars v) refl
+  where
+    by_var : (o : Option VarDef) → slice_get p.vars v ≡ o → is_scalar (slice_get p.types (var_type (tables p) v)) ≡ true
+    by_var None e = absurd (true≢false (sym h ∙ ap (λ o. is_scalar (option_and_then (λ (d : VarDef). slice_get p.types d.of_type) o)) e))
+    by_var (Some x) e =
+        ap (λ t. is_scalar (slice_get p.types t)) (var_type_is p v x e)
+        ∙ sym (ap (λ o. is_scalar (option_and_then (λ (d : VarDef). slice_get p.types d.of_type) o)) e) ∙ h
+
+-- what a scalar that is used gives
+pub read_is : (m : Machine) (s : State) → StandsFor m s → (q : Place) (a t at : ℕ) → Lies m.flow.now.program m.frames.items q a t → is_scalar (slice_get m.flow.now.program.types t) ≡ true → defined at (s.store q) ≡ defined at (content m.scalars.items a)
+read_is m s h q a t at l k = ap (defined at) (h.store.held q a t l k)
+
+-- ---- parts of an action
+
+-- a part that gives a value, and one that meets an error
+pub then_value : {A : Type 0} (m : Machine) (s : State) (k : ℕ) (r : Answer A) (x : A) (f : A → Outcome) (result : Result (Option Deed) Fault) → r ≡ Ok x → IsDecided m s k (f x) result → IsDecided m s k (then_with r f) result
+then_value m s k r x f result e h = subst (λ r. IsDecided m s k (then_with r f) result) (sym e) h
+
+pub then_error : {A : Type 0} (m : Machine) (s : State) (k : ℕ) (r : Answer A) (e : Fault) (f : A → Outcome) → r ≡ Err e → IsDecided m s k (then_with r f) (Err e)
+then_error m s k r e f h = ap (λ r. then_with r f) h
+
+-- the same of a variable
+pub then_spot : (m : Machine) (s : State) (k t at a : ℕ) (r : Answer Spot) (f : Spot → Outcome) (result : Result (Option Deed) Fault) → IsSpot m.flow.now.program m.frames.items t at r (Ok a)
+    → ((spot : Spot) → Lies m.flow.now.program m.frames.items spot.place a t → spot.at ≡ at → IsDecided m s k (f spot) result) → IsDecided m s k (then_with r f) result
+then_spot m s k t at a (Ok spot) f result h g = g spot h.0 h.1
+then_spot m s k t at a (Err e) f result h g = absurd h
+
+pub then_no_spot : (m : Machine) (s : State) (k t at : ℕ) (e : Fault) (r : Answer Spot) (f : Spot → Outcome) → IsSpot m.flow.now.program m.frames.items t at r (Err e) → IsDecided m s k (then_with r f) (Err e)
+then_no_spot m s k t at e (Ok spot) f h = absurd h
+then_no_spot m s k t at e (Err g) f h = ap Err h
