@@ -1,16 +1,20 @@
 -- What an action comes to in a state that the machine is in: of its parts, of which each gives a value or the same error.
-use Rattle.std.proofs.Common.{◌≡◌, ℕ, ◌-◌, ◌<◌, ◌≤◌, true, List, [], ◌∷◌, length, refl, sym, ap, ◌∙◌, subst, arith, ℤ, Option, Some, None, Result, Ok, Err}
-use Rattle.std.specs.List.{slice_get}
+use Rattle.std.proofs.Common.{◌≡◌, ℕ, ◌-◌, ◌<◌, ◌≤◌, Bool, true, false, ◌||◌, cond, List, [], ◌∷◌, length, refl, sym, ap, ◌∙◌, subst, arith, rules, ℤ, pos, Option, Some, None, Result, Ok, Err}
+use Rattle.std.specs.List.{list_any, slice_get}
 use Rattle.std.specs.Option.{option_and_then, option_map, unwrap_or}
+use Rattle.std.specs.Ordering.{int_eq}
 use Rattle.std.proofs.lemmas.Bool.{true≢false}
+use Rattle.std.proofs.lemmas.Int.{ints}
+use Rattle.std.proofs.lemmas.Cmp.{int_eq_equiv}
 use Rattle.std.proofs.lemmas.Option.{slice_get_within}
+use Rattle.arithmetic.specs.Numbers.{IsNumber, truth}
 use Rattle.pas_program.specs.declared.program.Program.{Program}
 use Rattle.pas_program.specs.declared.variable.VarDef.{VarDef}
 use Rattle.pas_program.specs.Checked.{tables}
 use Rattle.pas_program.specs.Typed.{type_of_var}
 use Rattle.pas_program.specs.Types.{is_scalar}
 use Rattle.control_points.specs.declared.fault.Fault.{Fault}
-use Rattle.control_points.specs.Actions.{Outcome, top_depth}
+use Rattle.control_points.specs.Actions.{Outcome, is_one_of, top_depth}
 use Rattle.control_points.specs.Evaluation.{Answer, Spot, defined, then_with, var_type}
 use Rattle.control_points.specs.States.{State}
 use Rattle.control_points.specs.Storage.{Place}
@@ -18,10 +22,11 @@ use Rattle.interp.specs.declared.decide.Deed.{Deed}
 use Rattle.interp.specs.declared.frame.Frame.{Frame}
 use Rattle.interp.specs.declared.machine.Machine.{Machine}
 use Rattle.interp.specs.Machines.{top_of}
-use Rattle.interp.specs.Meant.{IsDecided, IsScalarAt, IsSpot}
+use Rattle.interp.specs.Meant.{IsDecided, IsScalarAt, IsSpot, view_in}
 use Rattle.interp.specs.Places.{Lies}
 use Rattle.interp.specs.Standing.{StandsFor, content}
 use Rattle.interp.proofs.Addresses.{var_type_is}
+use mir.Val.{bool_byte}
 
 -- the depth of the latest activation
 pub top_is_top : (m : Machine) (s : State) → StandsFor m s → top_depth s.stack ≡ top_of m.frames.items
@@ -67,3 +72,36 @@ then_spot m s k t at a (Err e) f result h g = absurd h
 pub then_no_spot : (m : Machine) (s : State) (k t at : ℕ) (e : Fault) (r : Answer Spot) (f : Spot → Outcome) → IsSpot m.flow.now.program m.frames.items t at r (Err e) → IsDecided m s k (then_with r f) (Err e)
 then_no_spot m s k t at e (Ok spot) f h = absurd h
 then_no_spot m s k t at e (Err g) f h = ap Err h
+
+-- a variable whose value is used
+pub var_read : (m : Machine) (s : State) → StandsFor m s → (v a at : ℕ) → is_scalar (type_of_var (tables m.flow.now.program) v) ≡ true
+    → Lies m.flow.now.program m.frames.items ((view_in m s).place v) a (var_type (tables m.flow.now.program) v) → defined at (s.store ((view_in m s).place v)) ≡ defined at (content m.scalars.items a)
+var_read m s h v a at k l = read_is m s h ((view_in m s).place v) a (var_type (tables m.flow.now.program) v) at l (scalar_type m.flow.now.program v k)
+
+pub var_at : (m : Machine) (s : State) (v a : ℕ) → is_scalar (type_of_var (tables m.flow.now.program) v) ≡ true → Lies m.flow.now.program m.frames.items ((view_in m s).place v) a (var_type (tables m.flow.now.program) v)
+    → IsScalarAt m.flow.now.program m.frames.items (top_of m.frames.items) ((view_in m s).place v) a
+var_at m s v a k l = scalar_at m.flow.now.program m.frames.items ((view_in m s).place v) a (var_type (tables m.flow.now.program) v) l (scalar_type m.flow.now.program v k)
+
+-- an action that is to be done where a test passes, and one that is where it fails
+pub if_true : (m : Machine) (s : State) (k : ℕ) (b : Bool) (x y : Outcome) (result : Result (Option Deed) Fault) → b ≡ true → IsDecided m s k x result → IsDecided m s k (cond b x y) result
+if_true m s k b x y result e h = subst (λ b. IsDecided m s k (cond b x y) result) (sym e) h
+
+pub if_false : (m : Machine) (s : State) (k : ℕ) (b : Bool) (x y : Outcome) (result : Result (Option Deed) Fault) → b ≡ false → IsDecided m s k y result → IsDecided m s k (cond b x y) result
+if_false m s k b x y result e h = subst (λ b. IsDecided m s k (cond b x y) result) (sym e) h
+
+-- ---- tests
+
+pub truth_is : (b : Bool) → pos (bool_byte b) ≡ truth b
+truth_is true = refl
+truth_is false = refl
+
+pub truth_number : (b : Bool) → IsNumber (truth b)
+truth_number true = search (rules, ints)
+truth_number false = search (rules, ints)
+
+pub same_int : (x y : ℤ) → x ≡ y → int_eq x y ≡ true
+same_int x y e = subst (λ y. int_eq x y ≡ true) e (int_eq_equiv.refl x)
+
+pub is_among : (xs : List ℤ) (z : ℤ) → list_any (λ y. int_eq y z) xs ≡ is_one_of xs z
+is_among [] z = refl
+is_among (x ∷ xs) z = ap (λ b. b || list_any (λ y. int_eq y z) xs) (int_eq_equiv.symm x z) ∙ ap (λ b. int_eq z x || b) (is_among xs z)
