@@ -7,6 +7,8 @@ use Rattle.std.proofs.lemmas.Bool.{true≢false}
 use Rattle.std.proofs.lemmas.Int.{ints}
 use Rattle.std.proofs.lemmas.Cmp.{int_eq_equiv}
 use Rattle.std.proofs.lemmas.Option.{slice_get_within}
+use Rattle.std.specs.Int.{w32}
+use Rattle.px_base.specs.declared.kind.Kind.{Kind}
 use Rattle.arithmetic.specs.Numbers.{IsNumber, truth}
 use Rattle.pas_program.specs.declared.program.Program.{Program}
 use Rattle.pas_program.specs.declared.variable.VarDef.{VarDef}
@@ -15,7 +17,7 @@ use Rattle.pas_program.specs.Typed.{type_of_var}
 use Rattle.pas_program.specs.Types.{is_scalar}
 use Rattle.control_points.specs.declared.fault.Fault.{Fault}
 use Rattle.control_points.specs.Actions.{Outcome, is_one_of, top_depth}
-use Rattle.control_points.specs.Evaluation.{Answer, Spot, defined, then_with, var_type}
+use Rattle.control_points.specs.Evaluation.{Answer, Spot, checked, defined, is_value_of, then_with, var_type}
 use Rattle.control_points.specs.States.{State}
 use Rattle.control_points.specs.Storage.{Place}
 use Rattle.interp.specs.declared.decide.Deed.{Deed}
@@ -26,7 +28,8 @@ use Rattle.interp.specs.Meant.{IsDecided, IsScalarAt, IsSpot, view_in}
 use Rattle.interp.specs.Places.{Lies}
 use Rattle.interp.specs.Standing.{StandsFor, content}
 use Rattle.interp.proofs.Addresses.{var_type_is}
-use mir.Val.{bool_byte}
+use Rattle.interp.proofs.Casts.{number_kept}
+use mir.Val.{bool_byte, of_z, to_z}
 
 -- the depth of the latest activation
 pub top_is_top : (m : Machine) (s : State) → StandsFor m s → top_depth s.stack ≡ top_of m.frames.items
@@ -105,3 +108,19 @@ same_int x y e = subst (λ y. int_eq x y ≡ true) e (int_eq_equiv.refl x)
 pub is_among : (xs : List ℤ) (z : ℤ) → list_any (λ y. int_eq y z) xs ≡ is_one_of xs z
 is_among [] z = refl
 is_among (x ∷ xs) z = ap (λ b. b || list_any (λ y. int_eq y z) xs) (int_eq_equiv.symm x z) ∙ ap (λ b. int_eq z x || b) (is_among xs z)
+
+-- ---- numbers that are checked
+
+pub checked_at : (p : Program) (t u : ℕ) (b : Bool) (k : Kind) (at : ℕ) (x z : ℤ) → IsNumber x → t ≡ u → b ≡ is_value_of (slice_get p.types u) (to_z w32 (of_z w32 x)) → ◌≡◌ {A = Answer ℤ} (Ok z) (checked b k at (to_z w32 (of_z w32 x)))
+    → checked (is_value_of (slice_get p.types t) x) k at x ≡ Ok z
+checked_at p t u b k at x z n e f h =
+    ap (λ t. checked (is_value_of (slice_get p.types t) x) k at x) e
+    ∙ ap (λ x. checked (is_value_of (slice_get p.types u) x) k at x) (number_kept x n)
+    ∙ ap (λ b. checked b k at (to_z w32 (of_z w32 x))) (sym f) ∙ sym h
+
+pub checked_error : (p : Program) (t u : ℕ) (b : Bool) (k : Kind) (at : ℕ) (x : ℤ) (e : Fault) → IsNumber x → t ≡ u → b ≡ is_value_of (slice_get p.types u) (to_z w32 (of_z w32 x)) → ◌≡◌ {A = Answer ℤ} (Err e) (checked b k at (to_z w32 (of_z w32 x)))
+    → checked (is_value_of (slice_get p.types t) x) k at x ≡ Err e
+checked_error p t u b k at x d n e f h =
+    ap (λ t. checked (is_value_of (slice_get p.types t) x) k at x) e
+    ∙ ap (λ x. checked (is_value_of (slice_get p.types u) x) k at x) (number_kept x n)
+    ∙ ap (λ b. checked b k at (to_z w32 (of_z w32 x))) (sym f) ∙ sym h

@@ -1,3 +1,4 @@
+pub mod Acting
 pub mod Addresses
 pub mod Around
 pub mod Asking
@@ -17,6 +18,7 @@ pub mod Lying
 pub mod Numbers
 pub mod Parts
 pub mod Passing
+pub mod Returning
 pub mod Starting
 pub mod Storage
 pub mod Subscripting
