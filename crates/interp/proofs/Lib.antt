@@ -5,6 +5,7 @@ pub mod Asking
 pub mod Called
 pub mod Casts
 pub mod Chains
+pub mod Choosing
 pub mod Deciding
 pub mod Edges
 pub mod Forms
