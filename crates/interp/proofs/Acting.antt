@@ -62,12 +62,12 @@ pub write_plain : (m : Machine) (s : State) (k : ℕ) (item : WriteItem) (w : Wr
     → IsDecided m s k (meaning.write (chart_of m.flow.now) s item) result
 write_plain m s k item w result e f h =
     then_value m s k (meaning.written_value (chart_of m.flow.now) s item.value) w (meaning.write_in (chart_of m.flow.now) s item.width) result e
-      (subst (λ o. IsDecided m s k (meaning.write_in (chart_of m.flow.now) s o w) result) (sym f) h)
+    (subst (λ o. IsDecided m s k (meaning.write_in (chart_of m.flow.now) s o w) result) (sym f) h)
 
 pub write_wide : (m : Machine) (s : State) (k : ℕ) (item : WriteItem) (w : Written) (e : Expr) (n : ℕ) (result : Result (Option Deed) Fault) → meaning.written_value (chart_of m.flow.now) s item.value ≡ Ok w → item.width ≡ Some e
     → then_with (value (view_in m s) e) (λ z. checked (is_width z) WidthOutOfRange (out-Expr e).first z) ≡ Ok (pos n) → IsDecided m s k (landed s s.items (s.output ++ in_columns n w)) result
     → IsDecided m s k (meaning.write (chart_of m.flow.now) s item) result
 write_wide m s k item w e n result v f g h =
     then_value m s k (meaning.written_value (chart_of m.flow.now) s item.value) w (meaning.write_in (chart_of m.flow.now) s item.width) result v
-      (subst (λ o. IsDecided m s k (meaning.write_in (chart_of m.flow.now) s o w) result) (sym f)
-        (then_both m s k (value (view_in m s) e) (λ z. checked (is_width z) WidthOutOfRange (out-Expr e).first z) (pos n) _ result g h))
+    (subst (λ o. IsDecided m s k (meaning.write_in (chart_of m.flow.now) s o w) result) (sym f)
+    (then_both m s k (value (view_in m s) e) (λ z. checked (is_width z) WidthOutOfRange (out-Expr e).first z) (pos n) _ result g h))

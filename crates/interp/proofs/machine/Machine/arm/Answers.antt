@@ -18,7 +18,7 @@ returns-then-contains-clause-exact c = λ k s st.
     let found : c.contains.result ≡ list_any (λ y. int_eq y (to_z w32 (of_z w32 z))) xs = c.contains.ensures.value in
     let e : is_one_of xs z ≡ c.contains.result = sym (is_among xs z) ∙ ap (λ z. list_any (λ y. int_eq y z) xs) (number_kept z c.in_ok-value.ensures.number) ∙ sym found in
     then_value m s k (value (view_in m s) c.args.of.now) z _ c.does.result (c.in_ok-value.ensures.exact s st)
-      (if_true m s k (is_one_of xs z) _ _ c.does.result (e ∙ c.if-contains.true) (c.does.ensures.exact k [] tt s st))
+    (if_true m s k (is_one_of xs z) _ _ c.does.result (e ∙ c.if-contains.true) (c.does.ensures.exact k [] tt s st))
 
 pub returns-else-contains-clause-exact : goal.returns-else-contains-clause-exact
 returns-else-contains-clause-exact c = λ k s st.
@@ -28,4 +28,4 @@ returns-else-contains-clause-exact c = λ k s st.
     let found : c.contains.result ≡ list_any (λ y. int_eq y (to_z w32 (of_z w32 z))) xs = c.contains.ensures.value in
     let e : is_one_of xs z ≡ c.contains.result = sym (is_among xs z) ∙ ap (λ z. list_any (λ y. int_eq y z) xs) (number_kept z c.in_ok-value.ensures.number) ∙ sym found in
     then_value m s k (value (view_in m s) c.args.of.now) z _ (Ok None) (c.in_ok-value.ensures.exact s st)
-      (if_false m s k (is_one_of xs z) _ _ (Ok None) (e ∙ c.if-contains.false) refl)
+    (if_false m s k (is_one_of xs z) _ _ (Ok None) (e ∙ c.if-contains.false) refl)

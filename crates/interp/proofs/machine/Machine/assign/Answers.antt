@@ -29,4 +29,4 @@ returns-clause-exact c = λ k s st.
     let z = c.in_ok-z.z in
     then_spot m s k r.of_type (out-Access c.args.to.now).at c.in_ok-address.address (spot (view_in m s) c.args.to.now) _ c.does.result (c.in_ok-address.ensures.exact s st) (λ q l a.
     then_value m s k (assigned (view_in m s) r.of_type c.args.value.now) z _ c.does.result (ap (λ n. assigned (view_in m s) n c.args.value.now) (sym c.type_of_access.ensures.value) ∙ c.in_ok-z.ensures.exact s st)
-      (c.does.ensures.exact k (sets q.place (Some z) ∷ []) (ap Some (number_kept z c.in_ok-z.ensures.number), scalar_at p m.frames.items q.place c.in_ok-address.address r.of_type l scalar) s st))
+    (c.does.ensures.exact k (sets q.place (Some z) ∷ []) (ap Some (number_kept z c.in_ok-z.ensures.number), scalar_at p m.frames.items q.place c.in_ok-address.address r.of_type l scalar) s st))

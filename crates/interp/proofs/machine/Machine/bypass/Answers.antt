@@ -15,5 +15,5 @@ returns-clause-exact c = λ k s st.
     let r = c.undefine.result in
     let on : in_order down x y ≡ false = numbers_kept (in_order down) x y c.in_ok-x.ensures.number c.in_ok-y.ensures.number ∙ sym c.if-is_in_order.ensures in
     then_value m s k (value (view_in m s) c.args.first.now) x _ r (c.in_ok-x.ensures.exact s st)
-      (then_value m s k (value (view_in m s) c.args.last.now) y _ r (c.in_ok-y.ensures.exact s st)
-        (if_false m s k (in_order down x y) _ _ r on (c.undefine.ensures.exact k s st)))
+    (then_value m s k (value (view_in m s) c.args.last.now) y _ r (c.in_ok-y.ensures.exact s st)
+    (if_false m s k (in_order down x y) _ _ r on (c.undefine.ensures.exact k s st)))

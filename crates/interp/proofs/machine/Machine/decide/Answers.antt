@@ -63,7 +63,7 @@ returns-in-Some-clause-exact c = λ s st.
     let o = edge_met m.flow.now m.frames.items m.framed c.edges_onward-number-items.result.now c.edges.result.now c.loop-number.number-index c.index-edges-number.result c.edges_onward-number-items.ensures c.edges.ensures c.loop-number-test.true c.index-edges-number.is in
     let outcome = effect_of chart s k (place_of_point chart.points e.from) e.act in
     first_is m s ks k outcome c.in-Some.deed (first_done chart s (drop (i + 1) ks)) (c.loop-number.invariant s st ∙ first_at chart s ks i k e o.within o.listed o.known)
-      (subst (λ d. IsDecided m s k outcome (Ok d)) c.in-Some.is (c.in_ok-deed.ensures.exact k s st))
+    (subst (λ d. IsDecided m s k outcome (Ok d)) c.in-Some.is (c.in_ok-deed.ensures.exact k s st))
 
 pub returns-in_err-deed-clause-exact : goal.returns-in_err-deed-clause-exact
 returns-in_err-deed-clause-exact c = λ s st.
@@ -77,7 +77,7 @@ returns-in_err-deed-clause-exact c = λ s st.
     let outcome = effect_of chart s k (place_of_point chart.points e.from) e.act in
     let f = c.in_err-deed.field-0.0 in
     first_wrong m s ks c.from_residual.result f (search rules)
-      (c.loop-number.invariant s st ∙ first_at chart s ks i k e o.within o.listed o.known ∙ first_error chart s k outcome f (first_done chart s (drop (i + 1) ks)) (c.in_err-deed.ensures.exact k s st))
+    (c.loop-number.invariant s st ∙ first_at chart s ks i k e o.within o.listed o.known ∙ first_error chart s k outcome f (first_done chart s (drop (i + 1) ks)) (c.in_err-deed.ensures.exact k s st))
 
 pub loop-number-preserved : goal.loop-number-preserved
 loop-number-preserved c = λ s st.

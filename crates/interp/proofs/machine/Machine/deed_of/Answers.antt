@@ -45,13 +45,13 @@ returns-in-Goto-clause-exact c = λ k s st.
     let m = c.args.self.now in
     let jumped = λ (n : ℕ). goes_on (chart_of m.flow.now) s n [] in
     act_is m s k _ c.args.edge.now.act _ c.goes_on.result c.in-Goto.is
-      (subst (λ n. IsDecided m s k (jumped n) c.goes_on.result) (sym (ap (λ o. unwrap_or o (top_depth s.stack)) (c.depth_of.ensures.around s st))) (c.goes_on.ensures.exact k [] tt s st))
+    (subst (λ n. IsDecided m s k (jumped n) c.goes_on.result) (sym (ap (λ o. unwrap_or o (top_depth s.stack)) (c.depth_of.ensures.around s st))) (c.goes_on.ensures.exact k [] tt s st))
 
 pub returns-in-DropLine-clause-exact : goal.returns-in-DropLine-clause-exact
 returns-in-DropLine-clause-exact c = λ k s st.
     let m = c.args.self.now in
     act_is m s k _ c.args.edge.now.act _ c.lands.result c.in-DropLine.is
-      (landed_same m s k c.after_line.result.now (after_line s.items) (s.output ++ []) s.output c.lands.result (c.after_line.ensures ∙ ap after_line (sym st.items)) (append-nil s.output) (c.lands.ensures.exact k s st))
+    (landed_same m s k c.after_line.result.now (after_line s.items) (s.output ++ []) s.output c.lands.result (c.after_line.ensures ∙ ap after_line (sym st.items)) (append-nil s.output) (c.lands.ensures.exact k s st))
 
 pub returns-in-EndLine-clause-exact : goal.returns-in-EndLine-clause-exact
 returns-in-EndLine-clause-exact c = λ k s st.

@@ -11,4 +11,4 @@ returns-clause-exact c = λ k changes h s st.
     let m = c.args.self.now in
     let d : c.len.result - 1 ≡ top_of m.frames.items = ap (λ n. n - 1) (c.len.ensures ∙ m.frames.ok.0) in
     subst (λ d. IsDecided m s k (meaning.goes_on (chart_of m.flow.now) s d changes) c.goes_on.result) (d ∙ sym (top_is_top m s st))
-      (c.goes_on.ensures.exact k changes (subst (λ d. IsChangeOf m.flow.now.program m.frames.items d changes c.args.change) (sym d) h) s st)
+    (c.goes_on.ensures.exact k changes (subst (λ d. IsChangeOf m.flow.now.program m.frames.items d changes c.args.change) (sym d) h) s st)

@@ -43,11 +43,11 @@ returns-clause-exact c = λ k s st.
     let u = c.var_def-of_type.result.of_type in
     let same : t ≡ u = var_type_is p c.args.control c.var_def-of_type.result c.var_def-of_type.ensures.value in
     then_value m s k (value (view_in m s) c.args.first.now) x _ r (c.in_ok-x.ensures.exact s st)
-      (then_value m s k (value (view_in m s) c.args.last.now) y _ r (c.in_ok-y.ensures.exact s st)
-        (if_true m s k (in_order down x y) _ _ r on
-          (then_value m s k (checked (is_value_of (slice_get p.types t) x) ValueOutOfRange first x) v _ r (checked_at p t u c.is_value_of.result ValueOutOfRange first x v x_number same c.is_value_of.ensures c.in_ok-x-2.ensures)
-            (then_value m s k (checked (is_value_of (slice_get p.types t) y) ValueOutOfRange last y) w _ r (checked_at p t u c.is_value_of-2.result ValueOutOfRange last y w y_number same c.is_value_of-2.ensures c.in_ok-y-2.ensures)
-              (c.does.ensures.exact k (sets control (Some v) ∷ sets bound (Some w) ∷ []) (
-                (ap Some (number_kept v v_number), var_at m s c.args.control c.address_of.result c.requires.scalar (c.address_of.ensures.exact s st)),
-                (ap Some (number_kept w w_number), var_at m s c.args.bound c.address_of-2.result c.requires.bound_scalar (c.address_of-2.ensures.exact s st)),
-              ) s st)))))
+    (then_value m s k (value (view_in m s) c.args.last.now) y _ r (c.in_ok-y.ensures.exact s st)
+    (if_true m s k (in_order down x y) _ _ r on
+    (then_value m s k (checked (is_value_of (slice_get p.types t) x) ValueOutOfRange first x) v _ r (checked_at p t u c.is_value_of.result ValueOutOfRange first x v x_number same c.is_value_of.ensures c.in_ok-x-2.ensures)
+    (then_value m s k (checked (is_value_of (slice_get p.types t) y) ValueOutOfRange last y) w _ r (checked_at p t u c.is_value_of-2.result ValueOutOfRange last y w y_number same c.is_value_of-2.ensures c.in_ok-y-2.ensures)
+    (c.does.ensures.exact k (sets control (Some v) ∷ sets bound (Some w) ∷ []) (
+      (ap Some (number_kept v v_number), var_at m s c.args.control c.address_of.result c.requires.scalar (c.address_of.ensures.exact s st)),
+      (ap Some (number_kept w w_number), var_at m s c.args.bound c.address_of-2.result c.requires.bound_scalar (c.address_of-2.ensures.exact s st)),
+    ) s st)))))

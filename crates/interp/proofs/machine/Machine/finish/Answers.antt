@@ -24,5 +24,5 @@ returns-clause-exact c = λ k s st.
     let r = c.undefine.result in
     let on : comes_before down x y ≡ false = numbers_kept (comes_before down) x y c.in_ok-x.ensures.number c.in_ok-y.ensures.number ∙ sym c.if-comes_before.ensures in
     then_value m s k (defined c.args.at (s.store control)) x _ r (var_read m s st c.args.control c.address_of.result c.args.at c.requires.scalar (c.address_of.ensures.exact s st) ∙ sym c.in_ok-x.ensures.value)
-      (then_value m s k (defined c.args.at (s.store bound)) y _ r (var_read m s st c.args.bound c.address_of-2.result c.args.at c.requires.bound_scalar (c.address_of-2.ensures.exact s st) ∙ sym c.in_ok-y.ensures.value)
-        (if_false m s k (comes_before down x y) _ _ r on (c.undefine.ensures.exact k s st)))
+    (then_value m s k (defined c.args.at (s.store bound)) y _ r (var_read m s st c.args.bound c.address_of-2.result c.args.at c.requires.bound_scalar (c.address_of-2.ensures.exact s st) ∙ sym c.in_ok-y.ensures.value)
+    (if_false m s k (comes_before down x y) _ _ r on (c.undefine.ensures.exact k s st)))

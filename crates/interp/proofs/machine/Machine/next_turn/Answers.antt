@@ -34,6 +34,6 @@ returns-clause-exact c = λ k s st.
     let at = c.address_of-address.result in
     let first = c.address_of-address.ensures.exact s st in
     then_value m s k (defined c.args.at (s.store control)) x _ r (var_read m s st c.args.control at c.args.at c.requires.scalar first ∙ sym c.in_ok-x.ensures.value)
-      (then_value m s k (defined c.args.at (s.store bound)) y _ r (var_read m s st c.args.bound c.address_of.result c.args.at c.requires.bound_scalar (c.address_of.ensures.exact s st) ∙ sym c.in_ok-y.ensures.value)
-        (if_true m s k (comes_before down x y) _ _ r on
-          (c.does.ensures.exact k (sets control (Some (stepped down x)) ∷ []) (ap Some (next ∙ number_kept z c.next_value.ensures.number), var_at m s c.args.control at c.requires.scalar first) s st)))
+    (then_value m s k (defined c.args.at (s.store bound)) y _ r (var_read m s st c.args.bound c.address_of.result c.args.at c.requires.bound_scalar (c.address_of.ensures.exact s st) ∙ sym c.in_ok-y.ensures.value)
+    (if_true m s k (comes_before down x y) _ _ r on
+    (c.does.ensures.exact k (sets control (Some (stepped down x)) ∷ []) (ap Some (next ∙ number_kept z c.next_value.ensures.number), var_at m s c.args.control at c.requires.scalar first) s st)))

@@ -63,8 +63,8 @@ returns-in-None-clause-exact c = λ k s st.
     let top = ap (option_and_then (λ (g : Frame). g.call)) c.top.ensures ∙ c.in-Some.is ∙ ap Some c.if-made-call.false in
     let d : c.len-depth.result - 2 ≡ top_depth s.stack - 1 = omega (arith, c.len-depth.ensures, m.frames.ok.0, st.stack.height) in
     if_true m s k (was_made_by call (meaning.top_call s.stack)) _ _ r (ap (was_made_by call) (latest_call m s st ∙ top) ∙ eq-eqb call call refl)
-      (subst (λ o. IsDecided m s k (give_back chart s c.args.at o) r) c.in-None.ensures
-        (subst (λ d. IsDecided m s k (goes_on chart s d []) r) d (c.goes_on.ensures.exact k [] tt s st)))
+    (subst (λ o. IsDecided m s k (give_back chart s c.args.at o) r) c.in-None.ensures
+    (subst (λ d. IsDecided m s k (goes_on chart s d []) r) d (c.goes_on.ensures.exact k [] tt s st)))
 
 pub returns-in_ok-z-in-Some-slot_of-clause-exact : goal.returns-in_ok-z-in-Some-slot_of-clause-exact
 returns-in_ok-z-in-Some-slot_of-clause-exact c = λ k s st.
@@ -82,7 +82,7 @@ returns-in_ok-z-in-Some-slot_of-clause-exact c = λ k s st.
     let scalar = scalar_type p slot (slot_scalar m.flow.now m.frames.items m.framed call slot top (sym c.in-Some-slot_of.ensures)) in
     let at : IsScalarAt p m.frames.items n (whole n slot) a = record { of_type = var_type (tables p) slot; lies = c.scalar_of.ensures.exact; scalar = scalar; below = omega arith } in
     if_true m s k (was_made_by call (meaning.top_call s.stack)) _ _ r (ap (was_made_by call) (latest_call m s st ∙ top) ∙ eq-eqb call call refl)
-      (subst (λ o. IsDecided m s k (give_back chart s c.args.at o) r) c.in-Some-slot_of.ensures
-        (then_value m s k (result_value c.args.at (s.store (whole (top_depth s.stack) (result_of chart s.stack)))) z _ r (c.in_ok-z-in-Some-slot_of.ensures.exact s st)
-          (subst (λ d. IsDecided m s k (goes_on chart s d (sets (whole d slot) (Some z) ∷ [])) r) d
-            (c.goes_on-in-Some-slot_of.ensures.exact k (sets (whole n slot) (Some z) ∷ []) (ap Some (number_kept z c.in_ok-z-in-Some-slot_of.ensures.number), at) s st))))
+    (subst (λ o. IsDecided m s k (give_back chart s c.args.at o) r) c.in-Some-slot_of.ensures
+    (then_value m s k (result_value c.args.at (s.store (whole (top_depth s.stack) (result_of chart s.stack)))) z _ r (c.in_ok-z-in-Some-slot_of.ensures.exact s st)
+    (subst (λ d. IsDecided m s k (goes_on chart s d (sets (whole d slot) (Some z) ∷ [])) r) d
+    (c.goes_on-in-Some-slot_of.ensures.exact k (sets (whole n slot) (Some z) ∷ []) (ap Some (number_kept z c.in_ok-z-in-Some-slot_of.ensures.number), at) s st))))

@@ -16,4 +16,4 @@ returns-then-branch-from-clause-exact c = λ k s st.
     let w = c.args.wanted in
     let e : z ≡ truth w = same_bits z (truth w) c.in_ok-value.ensures.number (truth_number w) (c.if-branch-from.true ∙ ap (of_z w32) (c.from.ensures ∙ truth_is w)) in
     then_value m s k (value (view_in m s) c.args.cond.now) z _ c.does.result (c.in_ok-value.ensures.exact s st)
-      (if_true m s k (int_eq z (truth w)) _ _ c.does.result (same_int z (truth w) e) (c.does.ensures.exact k [] tt s st))
+    (if_true m s k (int_eq z (truth w)) _ _ c.does.result (same_int z (truth w) e) (c.does.ensures.exact k [] tt s st))

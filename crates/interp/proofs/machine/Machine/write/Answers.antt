@@ -29,8 +29,8 @@ returns-clause-exact c = λ k s st.
       | in-Some+in_ok-width-in-Some w ↦
           let n = w.in_ok-width-in-Some.field-0 in
           write_wide m s k item (text_of t) w.in-Some.width n r v w.in-Some.is (w.in_ok-width-in-Some.ensures.exact s st)
-            (landed_same m s k m.items.now s.items (written c.match-item-2.width) (s.output ++ in_columns n (text_of t)) r (sym st.items) (ap written w.width-is) lands)
+          (landed_same m s k m.items.now s.items (written c.match-item-2.width) (s.output ++ in_columns n (text_of t)) r (sym st.items) (ap written w.width-is) lands)
       | in-None w ↦
           write_plain m s k item (text_of t) r v w.in-None.is
-            (landed_same m s k m.items.now s.items (written c.match-item-2.width) (s.output ++ (text_of t).bytes) r (sym st.items) (ap written w.width-is) lands)
+          (landed_same m s k m.items.now s.items (written c.match-item-2.width) (s.output ++ (text_of t).bytes) r (sym st.items) (ap written w.width-is) lands)
     ]
