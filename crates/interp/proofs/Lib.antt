@@ -20,3 +20,4 @@ pub mod Starting
 pub mod Storage
 pub mod Subscripting
 pub mod Targets
+pub mod Valuing
