@@ -21,3 +21,5 @@ pub mod Storage
 pub mod Subscripting
 pub mod Targets
 pub mod Valuing
+pub mod ValuingExprs
+pub mod ValuingParts
