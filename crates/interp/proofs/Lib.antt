@@ -23,3 +23,4 @@ pub mod Targets
 pub mod Valuing
 pub mod ValuingExprs
 pub mod ValuingParts
+pub mod ValuingSteps
