@@ -8,13 +8,13 @@ use Rattle.pas_program.specs.declared.routine.Routine.{Routine}
 use Rattle.control_points.specs.declared.edge.Act.{Act}
 use Rattle.control_points.specs.declared.edge.Act.TheVariants as act
 use Rattle.control_points.specs.declared.edge.Edge.{Edge}
-use Rattle.control_points.specs.declared.item.Item.{Item}
-use Rattle.control_points.specs.Chart.{Chart}
+use Rattle.control_points.specs.declared.fault.Fault.{Fault}
+use Rattle.control_points.specs.Chart.{Chart, leaving}
 use Rattle.control_points.specs.Evaluation.{Answer}
 use Rattle.control_points.specs.States as states
 use Rattle.control_points.specs.States.{Activation, Stack, State}
 use Rattle.control_points.specs.Steps as steps
-use Rattle.control_points.specs.Steps.{arm_place, point_of, selector_of, selector_place}
+use Rattle.control_points.specs.Steps.{arm_place, first_done, is_halted, next, point_of, selector_of, selector_place}
 use Rattle.control_points.specs.Storage.{empty_store}
 use Rattle.interp.specs.declared.frame.Frame.{Frame}
 use Rattle.interp.specs.declared.machine.Machine.{Machine}
@@ -117,3 +117,16 @@ step_after sel (Err f) s new (Ok progress.Moved) h = absurd h
 step_after sel x s new (Ok progress.Halted) h = absurd h
 step_after sel x s new (Ok (progress.Error kind at)) h = (ap (steps.progress sel) h.0, h.1)
 step_after sel x s new (Err e) h = h
+
+-- the next step, by the point where the machine stands
+pub next_halts : (c : Chart) (s : State) → is_halted c s.stack ≡ true → next c s ≡ steps.halts
+next_halts c s h = ap (λ b. cond b steps.halts (steps.progress (selector_of c (leaving c.edges (point_of s.stack))) (first_done c s (leaving c.edges (point_of s.stack))))) h
+
+pub next_goes_on : (c : Chart) (s : State) (p : ℕ) → is_halted c s.stack ≡ false → point_of s.stack ≡ p → next c s ≡ steps.progress (selector_of c (leaving c.edges p)) (first_done c s (leaving c.edges p))
+next_goes_on c s p h e =
+    ap (λ b. cond b steps.halts (steps.progress (selector_of c (leaving c.edges (point_of s.stack))) (first_done c s (leaving c.edges (point_of s.stack))))) h
+    ∙ ap (λ p. steps.progress (selector_of c (leaving c.edges p)) (first_done c s (leaving c.edges p))) e
+
+-- an error is told, and the machine is as it was
+pub step_fails : (E : Type 0) (x : steps.Progress) (f : Fault) (s : State) (m : Machine) (r : Progress) → r ≡ progress.Error f.kind f.at → x ≡ steps.fails f → StandsFor m s → IsStep {E = E} x s m (Ok r)
+step_fails E x f s m r e h k = subst (λ (r : Progress). IsStep {E = E} x s m (Ok r)) (sym e) (h, k)
