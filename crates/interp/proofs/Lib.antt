@@ -22,5 +22,7 @@ pub mod Subscripting
 pub mod Targets
 pub mod Valuing
 pub mod ValuingExprs
+pub mod ValuingOutput
 pub mod ValuingParts
+pub mod ValuingRuns
 pub mod ValuingSteps
