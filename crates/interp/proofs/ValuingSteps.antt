@@ -57,14 +57,17 @@ first_activation r n = record { frame = record { routine = r; call = None; paren
 kept_at : (p : Program) (r n : ℕ) (d : Routine) → suc r ≡ length p.routines → slice_get p.routines r ≡ Some d → (links : List ℕ) (k : ℕ) (g : Frame) → slice_get (first_frame r n ∷ []) k ≡ Some g
     → (a : Activation) × (activation_at (first_activation r n ∷ []) k ≡ Some a) × IsKept p (first_frame r n ∷ []) links k g a
 kept_at p r n d e f links zero g h =
-    let s = same_some (first_frame r n) g h in
-    (first_activation r n, refl, record {
-      known = ap (λ (x : Frame). x.routine) s;
-      call = ap (λ (x : Frame). x.call) s;
-      parent = ap (λ (x : Frame). x.parent) s;
-      point = ap (λ (x : Frame). x.point) s;
-      bound = λ v x k o i. absurd (no_links p r v d x e f k (o ∙ ap (λ (x : Frame). x.routine) (sym s)) i);
-    })
+    let s = same_some (first_frame r n) g h in (
+      first_activation r n,
+      refl,
+      record {
+        known = ap (λ (x : Frame). x.routine) s;
+        call = ap (λ (x : Frame). x.call) s;
+        parent = ap (λ (x : Frame). x.parent) s;
+        point = ap (λ (x : Frame). x.point) s;
+        bound = λ v x k o i. absurd (no_links p r v d x e f k (o ∙ ap (λ (x : Frame). x.routine) (sym s)) i);
+      },
+    )
 kept_at p r n d e f links (suc k) g h = absurd (none-some g h)
 
 pub first_stack : (p : Program) (r n : ℕ) (d : Routine) → suc r ≡ length p.routines → slice_get p.routines r ≡ Some d → (links : List ℕ) → StackIs p (first_frame r n ∷ []) links (first_activation r n ∷ [])
