@@ -1,13 +1,22 @@
-use Rattle.std.proofs.Common.{◌≡◌, length, take, ap, sym, ◌∙◌, subst, arith}
+use Rattle.std.proofs.Common.{◌≡◌, length, take, ap, sym, ◌∙◌, subst, arith, Ok}
 use Rattle.std.specs.declared.alloc.AllocError.{AllocError}
 use Rattle.control_points.specs.Flows.{chart_of}
 use Rattle.control_points.specs.Steps.{next}
 use Rattle.interp.specs.declared.machine.Progress.TheVariants as progress
 use Rattle.interp.specs.declared.running.Ending.{Ending}
+use Rattle.interp.specs.Meant.{IsStep}
 use Rattle.interp.proofs.ValuingOutput.{front_is}
-use Rattle.interp.proofs.ValuingRuns.{ending_of, ends_so, output_begins, output_stays, run_ends}
+use Rattle.interp.proofs.ValuingRuns.{ending_of, ends_so, output_begins, output_stays, reaches_next, run_ends}
 use Rattle.interp.proofs.running.run.Goals.{in-Moved-2, in-Halted-2, in-Error-2}
 use Rattle.interp.proofs.running.run.Goals as goal
+
+pub loop-steps-preserved : goal.loop-steps-preserved
+loop-steps-preserved c =
+    let m = c.loop-steps.machine in
+    let w = c.loop-steps.invariant.reaches in
+    let x = next (chart_of m.flow.now) w.state in
+    let a = subst (λ p. IsStep {E = AllocError} x w.state c.step.new.self (Ok p)) c.in-Moved.is (c.in_ok-step.ensures.exact w.state w.stands) in
+    record { reaches = reaches_next c.args.flow.now c.args.items.now c.loop-steps.steps m c.step.new.self w c.in_ok-step.ensures.flow a.0 a.1 a.2 }
 
 pub returns-in-Halted-clause-ended : goal.returns-in-Halted-clause-ended
 returns-in-Halted-clause-ended c =

@@ -19,10 +19,10 @@ use Rattle.interp.proofs.Targets.{own_visible, scalar_place}
 use Rattle.std.specs.List.{slice_get}
 use Rattle.std.proofs.lemmas.List.{drop_all}
 use Rattle.std.proofs.lemmas.Result.{err_from_is_err_and}
-use Rattle.control_points.specs.Evaluation.{spot, subscript_values}
+use Rattle.control_points.specs.Evaluation.{defined, spot, subscript_values, var_type}
 use Rattle.interp.specs.Meant.{IsPart, valued, view_in}
 use Rattle.interp.specs.Places.{place_in}
-use Rattle.interp.proofs.ValuingExprs.{number_same, used_is, value_of_access}
+use Rattle.interp.proofs.ValuingExprs.{number_same, scalar_type, used_is, value_of_access, value_of_call}
 use Rattle.interp.proofs.ValuingParts.{IsLed, led_first, led_fails, led_outside, led_on, led_last}
 use Rattle.interp.proofs.Subscripting.{leading_at, leads_same, element_room, rest_at}
 use Rattle.interp.proofs.machine.Machine.+evaluate.Goals as goal
@@ -171,3 +171,14 @@ value-used-requires-in-Call t c =
     let m = c.args.self.now in
     let p = m.flow.now.program in
     scalar_room p m.frames.items c.in-Call.slot c.address_of.result (call_scalar (tables p) c.args.e.now c.in-Call.routine c.in-Call.actuals c.in-Call.slot c.in-Call.at (c.in-Call.is ∙ sym (rolls-Call c.in-Call.routine c.in-Call.actuals c.in-Call.slot c.in-Call.at)) c.requires.types) c.address_of.ensures.room
+
+pub value-returns-in-Call-clause-exact : goal.value-returns-in-Call-clause-exact
+value-returns-in-Call-clause-exact t c = λ s h.
+    let m = c.args.self.now in
+    let p = m.flow.now.program in
+    let view = view_in m s in
+    let is = c.in-Call.is ∙ sym (rolls-Call c.in-Call.routine c.in-Call.actuals c.in-Call.slot c.in-Call.at) in
+    let scalar = scalar_type p c.in-Call.slot (call_scalar (tables p) c.args.e.now c.in-Call.routine c.in-Call.actuals c.in-Call.slot c.in-Call.at is c.requires.types) in
+    value_of_call view c.args.e.now c.in-Call.routine c.in-Call.actuals c.in-Call.slot c.in-Call.at is
+    ∙ ap (defined c.in-Call.at) (h.store.held (view.place c.in-Call.slot) c.address_of.result (var_type (tables p) c.in-Call.slot) (c.address_of.ensures.exact s h) scalar)
+    ∙ sym c.used-in-Call.ensures.value
