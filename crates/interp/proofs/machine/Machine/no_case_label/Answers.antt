@@ -1,4 +1,4 @@
-use Rattle.std.proofs.Common.{◌≡◌, ◌<◌, ap, ◌∙◌, sym, get_or, length}
+use Rattle.std.proofs.Common.{◌<◌, ap, ◌∙◌, sym, get_or, length}
 use Rattle.std.specs.List.{slice_get}
 use Rattle.std.proofs.lemmas.Option.{slice_get_within, slice_get-get_or}
 use Rattle.px_base.specs.declared.kind.Kind.TheVariants as kind
