@@ -24,3 +24,9 @@ pub mod Starting
 pub mod Storage
 pub mod Subscripting
 pub mod Targets
+pub mod Valuing
+pub mod ValuingExprs
+pub mod ValuingOutput
+pub mod ValuingParts
+pub mod ValuingRuns
+pub mod ValuingSteps

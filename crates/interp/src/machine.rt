@@ -43,7 +43,7 @@ pub struct Machine<'a> {
 impl Machine<'_> {
     /// The output, when the run is not to go on.
     pub(crate) fn into_output(self) -> Vec<u8>
-        ensures { result ≡ self.output }
+        ensures { result ≡ self.entry.output }
     {
         self.output
     }

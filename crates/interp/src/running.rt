@@ -63,6 +63,7 @@ pub fn run(alloc: Global, flow: &Flow, items: &[Item], limit: u32) -> Result<End
 fn stopped(machine: Machine<'_>, ending: Ending, steps: u32) -> Ended
     ensures ending { result.ending ≡ ending }
     ensures steps { result.steps ≡ steps }
+    ensures output { result.output ≡ machine.entry.output }
 {
     Ended {
         ending,
