@@ -1,9 +1,12 @@
+pub mod Acting
 pub mod Addresses
 pub mod Around
 pub mod Asking
 pub mod Called
 pub mod Casts
 pub mod Chains
+pub mod Choosing
+pub mod Deciding
 pub mod Edges
 pub mod Forms
 pub mod Frames
@@ -16,7 +19,14 @@ pub mod Lying
 pub mod Numbers
 pub mod Parts
 pub mod Passing
+pub mod Returning
 pub mod Starting
 pub mod Storage
 pub mod Subscripting
 pub mod Targets
+pub mod Valuing
+pub mod ValuingExprs
+pub mod ValuingOutput
+pub mod ValuingParts
+pub mod ValuingRuns
+pub mod ValuingSteps

@@ -90,7 +90,7 @@ pub record SlotFacts (flow : Flow) (frames : List Frame) (slot : ℕ) : Type 0 w
   pub in_range : slot < length flow.program.vars
   pub own : IsOwn flow.program frames (top_of frames - 1) slot
 
-slot_act : (a : Act) (slot : ℕ) → slot_of a ≡ Some slot → (routine : ℕ) × (actuals : List Actual) × (at : ℕ) × (a ≡ act.Call routine actuals (Some slot) at)
+pub slot_act : (a : Act) (slot : ℕ) → slot_of a ≡ Some slot → (routine : ℕ) × (actuals : List Actual) × (at : ℕ) × (a ≡ act.Call routine actuals (Some slot) at)
 slot_act (act.Call routine actuals s at) slot h = (routine, actuals, at, ap (λ o. act.Call routine actuals o at) h)
 slot_act act.Skip slot h = absurd (none-some slot h)
 slot_act (act.Assign target value) slot h = absurd (none-some slot h)

@@ -1,13 +1,13 @@
 -- What an action that is to be done may ask of a machine: which activation goes on, what changes in the storage, and the input
 -- that is left.
-use Rattle.std.specs.Prelude.{◌≡◌, ℕ, ◌+◌, ◌-◌, ◌<◌, ◌≤◌, false, List, length, ℤ, Option, Some, None, Result, IfOk, IfSome, slice_get, slice_set, ◌++◌, take, drop}
+use Rattle.std.specs.Prelude.{◌≡◌, ℕ, ◌+◌, ◌-◌, ◌<◌, ◌≤◌, Bool, false, List, length, ℤ, Option, Some, None, is_some, Result, IfOk, IfSome, slice_get, slice_set, ◌++◌, take, drop}
 use Rattle.std.specs.Option.{option_map, option_and_then}
 use Rattle.arithmetic.specs.Numbers.{IsNumber}
 use Rattle.pas_program.specs.declared.expr.Actual.{Actual}
 use Rattle.pas_program.specs.declared.program.Program.{Program}
 use Rattle.pas_program.specs.declared.variable.VarDef.{VarDef}
 use Rattle.pas_program.specs.declared.variable.VarKind.TheVariants as kind
-use Rattle.pas_program.specs.Tables.{is_kind}
+use Rattle.pas_program.specs.Tables.{Head, Tables, is_kind}
 use Rattle.control_points.specs.declared.edge.Act.{Act}
 use Rattle.control_points.specs.declared.edge.Act.TheVariants as act
 use Rattle.control_points.specs.declared.edge.Edge.{Edge}
@@ -102,3 +102,10 @@ pub record IsDeedOf (flow : Flow) (frames : List Frame) (k : ℕ) (d : Deed) : T
   pub known : slice_get flow.edges k ≡ Some edge
   pub leaves : edge.from ≡ top_point frames
   pub asked : IsAsked flow.program frames edge.act d
+
+-- the variable for the result of a routine, and whether there is one
+abbrev pub result_in : Tables → ℕ → Option ℕ
+result_in t r = option_and_then (λ (h : Head). h.result) (t.head_at r)
+
+abbrev pub is_function : Tables → ℕ → Bool
+is_function t r = is_some (result_in t r)

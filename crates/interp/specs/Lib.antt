@@ -3,6 +3,7 @@ pub mod Deeds
 pub mod InputItems
 pub mod Layouts
 pub mod Machines
+pub mod Meant
 pub mod Places
 pub mod RunText
 pub mod Same

@@ -1,13 +1,19 @@
 //! Calls (ISO 7185, 6.6.3, 6.7.3 and 6.8.2.3).
 ghost use Rattle.std.specs.Prelude.{◌≡◌, ◌<◌, length, map, slice_get, IfOk, OnOk, Some, true};
+ghost use Rattle.std.specs.Option.{option_and_then};
 ghost use Rattle.pas_program.specs.Checked.{numbers_in, scope_in, tables};
 ghost use Rattle.pas_program.specs.Each.{all_true, each_actual};
-ghost use Rattle.pas_program.specs.Tables.{holds_of, is_callable};
+ghost use Rattle.pas_program.specs.Tables.{Head, holds_of, is_callable};
 ghost use Rattle.pas_program.specs.Typed.{is_passed_to, passed};
+ghost use Rattle.control_points.specs.Actions as meaning;
+ghost use Rattle.control_points.specs.Finding.{around};
+ghost use Rattle.control_points.specs.Flows.{chart_of};
 ghost use Rattle.interp.specs.Calls.{AreLinked, HasNew, HasNewFor, IsArgument, IsCallOf, IsGivenLink, IsParent, are_passed};
 ghost use Rattle.interp.specs.Deeds.{target_of};
 ghost use Rattle.interp.specs.Machines.{end_of, top_routine};
+ghost use Rattle.interp.specs.Meant.{InState, IsCalled};
 ghost use Rattle.interp.specs.Same.{SameActivations};
+ghost use Rattle.interp.specs.Standing.{StandsFor};
 
 use crate::decide::Change;
 use crate::frame::{Extent, Frame};
@@ -48,6 +54,7 @@ impl<'a> Machine<'a> {
         requires call { IsCallOf self.old.flow.now self.old.frames.items edge routine actuals.now }
         requires target { target_of self.old.flow.now.edges edge ≡ Some point }
         ensures flow { self.new.flow.now ≡ self.old.flow.now }
+        ensures exact { InState self.old (λ s. IsCalled (meaning.call (chart_of self.old.flow.now) s edge routine actuals.now) point s self.new result) }
     {
         let base = self.end();
         let parent = self.parent_of(routine);
@@ -77,6 +84,7 @@ impl<'a> Machine<'a> {
         requires in_range { routine < length self.now.flow.now.program.routines }
         requires callable { is_callable (tables self.now.flow.now.program) (top_routine self.now.frames.items) routine ≡ true }
         ensures parent { IsParent self.now.flow.now self.now.frames.items routine result }
+        ensures exact { InState self.now (λ s. option_and_then (λ (h : Head). option_and_then (λ p. around s.stack (meaning.top_depth s.stack) p) h.parent) ((tables self.now.flow.now.program).head_at routine) ≡ result) }
     {
         match self.flow.program.routine(routine).parent {
             Some(parent) => Some(self.depth_of(parent as usize)),
@@ -90,6 +98,7 @@ impl<'a> Machine<'a> {
         requires base { base ≡ end_of self.old.flow.now.program self.old.frames.items }
         ensures kept { SameActivations self.old self.new }
         ensures room { OnOk result (HasNew self.old.flow.now.program self.old.frames.items routine self.new.links.items self.new.scalars.items) }
+        ensures state { InState self.old (λ s. StandsFor self.new s) }
     {
         let extent = self.extent_of(routine as usize);
         self.scalars.truncate(base.scalars);

@@ -1,5 +1,8 @@
 //! Which action is to be done next, and what it does (ISO 7185, 6.8 and 6.9).
-ghost use Rattle.std.specs.Prelude.{◌≡◌, ◌-◌, ◌<◌, false, length, map, slice_get, IfOk, IfSome, Some, true};
+ghost use Rattle.std.specs.Prelude.{◌≡◌, ℕ, ◌-◌, ◌<◌, ◌++◌, false, List, [], ◌∷◌, length, map, pos, slice_get, IfOk, IfSome, None, Ok, Some, true};
+ghost use Rattle.px_base.specs.declared.kind.Kind.TheVariants as kind;
+ghost use Rattle.pas_program.specs.declared.expr.Actual.TheViews.{out-Expr};
+ghost use Rattle.pas_program.specs.declared.statement.WriteValue.TheVariants as written;
 ghost use Rattle.arithmetic.specs.Numbers.{IsNumber};
 ghost use Rattle.pas_program.specs.Checked.{numbers_in, scope_in, tables};
 ghost use Rattle.pas_program.specs.Each.{each_access, each_expr, each_item};
@@ -8,10 +11,18 @@ ghost use Rattle.pas_program.specs.Typed.{copy_fits, hosted, hosted_by, is_of_ho
 ghost use Rattle.pas_program.specs.Types.{is_scalar};
 ghost use Rattle.control_points.specs.Acts.{act_types_fit, each_act};
 ghost use Rattle.control_points.specs.Actions.{comes_before, in_order, slot_at, stepped};
-ghost use Rattle.control_points.specs.Chart.{leaving, place_of_point};
+ghost use Rattle.control_points.specs.Actions as meaning;
+ghost use Rattle.control_points.specs.Actions.{at_depth, top_depth};
+ghost use Rattle.control_points.specs.Chart.{Chart, leaving, place_of_point};
+ghost use Rattle.control_points.specs.Evaluation.{checked, then_with, value};
+ghost use Rattle.control_points.specs.Flows.{chart_of};
+ghost use Rattle.control_points.specs.Output.{is_width};
+ghost use Rattle.control_points.specs.Steps.{selector_of};
+ghost use Rattle.control_points.specs.Storage.{whole};
 ghost use Rattle.control_points.specs.Input as input;
 ghost use Rattle.std.specs.Option.{option_map};
-ghost use Rattle.interp.specs.Deeds.{AreSafe, IsAsked, IsChange, IsDeedOf, IsOwn, LandsAt, top_call};
+ghost use Rattle.interp.specs.Deeds.{AreSafe, IsAsked, IsChange, IsDeedOf, IsOwn, LandsAt, is_function, result_in, top_call};
+ghost use Rattle.interp.specs.Meant.{InState, IsChangeOf, IsDecided, IsFirst, bytes_of, text_of, view_in};
 ghost use Rattle.interp.specs.Machines.{AreItems, top_of, top_point, top_routine};
 
 use crate::evaluate::checked;
@@ -71,6 +82,7 @@ impl<'a> Machine<'a> {
     /// The first edge whose action is to be done, and that action.
     pub(crate) fn decide(&self) -> Result<Option<(u32, Deed<'a>)>, Fault>
         ensures safe { IfOk result (λ o. IfSome o (λ d. IsDeedOf self.now.flow.now self.now.frames.items d.0 d.1)) }
+        ensures exact { InState self.now (λ s. IsFirst self.now s (leaving self.now.flow.now.edges (top_point self.now.frames.items)) result) }
     {
         let flow = self.flow;
         for number in self.edges_onward() {
@@ -93,7 +105,9 @@ impl<'a> Machine<'a> {
     }
 
     /// The error where no constant of a `case` is the selector's value.
-    pub(crate) fn no_case_label(&self) -> Fault {
+    pub(crate) fn no_case_label(&self) -> Fault
+        ensures { (c : Chart) → c.edges ≡ self.now.flow.now.edges → result ≡ record { kind = kind.NoCaseLabel; at = selector_of c (leaving self.now.flow.now.edges (top_point self.now.frames.items)) } }
+    {
         let flow = self.flow;
         let at = match self.edges_onward() {
             [] => 0,
@@ -115,6 +129,7 @@ impl<'a> Machine<'a> {
         requires scopes { each_act (scope_in self.now.flow.now.program (top_routine self.now.frames.items)) edge.now.act ≡ true }
         requires source { edge.now.from < length self.now.flow.now.points }
         ensures safe { IfOk result (λ o. IfSome o (IsAsked self.now.flow.now.program self.now.frames.items edge.now.act)) }
+        ensures exact { (k : ℕ) → InState self.now (λ s. IsDecided self.now s k (meaning.effect_of (chart_of self.now.flow.now) s k (place_of_point self.now.flow.now.points edge.now.from) edge.now.act) result) }
     {
         match &edge.act {
             Act::Skip => self.does(Change::Nothing),
@@ -184,6 +199,7 @@ impl<'a> Machine<'a> {
         requires depth { depth < length self.now.frames.items }
         requires change { IsChange self.now.flow.now.program self.now.frames.items change }
         ensures safe { AreSafe self.now.flow.now.program self.now.frames.items depth result }
+        ensures exact { (k : ℕ) (changes : List meaning.Change) → IsChangeOf self.now.flow.now.program self.now.frames.items depth changes change → InState self.now (λ s. IsDecided self.now s k (meaning.goes_on (chart_of self.now.flow.now) s depth changes) result) }
     {
         Ok(Some(Deed::Lands(Effect {
             depth,
@@ -197,6 +213,7 @@ impl<'a> Machine<'a> {
     fn does(&self, change: Change) -> Decision<'a>
         requires { IsChange self.now.flow.now.program self.now.frames.items change }
         ensures safe { AreSafe self.now.flow.now.program self.now.frames.items (top_of self.now.frames.items) result }
+        ensures exact { (k : ℕ) (changes : List meaning.Change) → IsChangeOf self.now.flow.now.program self.now.frames.items (top_of self.now.frames.items) changes change → InState self.now (λ s. IsDecided self.now s k (meaning.does (chart_of self.now.flow.now) s changes) result) }
     {
         self.goes_on(self.frames.len() - 1, change)
     }
@@ -205,6 +222,7 @@ impl<'a> Machine<'a> {
     fn lands(&self, items: &'a [Item], output: Option<Output<'a>>) -> Decision<'a>
         requires { AreItems items.now }
         ensures safe { AreSafe self.now.flow.now.program self.now.frames.items (top_of self.now.frames.items) result }
+        ensures exact { (k : ℕ) → InState self.now (λ s. IsDecided self.now s k (Ok (Some (record { onward = at_depth (top_depth s.stack); changes = []; items = items.now; output = s.output ++ bytes_of output.entry }))) result) }
     {
         Ok(Some(Deed::Lands(Effect {
             depth: self.frames.len() - 1,
@@ -223,6 +241,7 @@ impl<'a> Machine<'a> {
         requires value_fits { (hosted (tables self.now.flow.now.program) value.now).fits ≡ true }
         requires target { is_target (tables self.now.flow.now.program) (hosted (tables self.now.flow.now.program) value.now).boolean (reached (tables self.now.flow.now.program) to.now) ≡ true }
         ensures safe { AreSafe self.now.flow.now.program self.now.frames.items (top_of self.now.frames.items) result }
+        ensures exact { (k : ℕ) → InState self.now (λ s. IsDecided self.now s k (meaning.assign (chart_of self.now.flow.now) s to.now value.now) result) }
     {
         let address = self.spot(to)?;
         let z = self.assigned(self.flow.program.type_of_access(to), value)?;
@@ -239,6 +258,7 @@ impl<'a> Machine<'a> {
         requires from_scopes { each_access (scope_in self.now.flow.now.program (top_routine self.now.frames.items)) from.now ≡ true }
         requires fits { copy_fits (tables self.now.flow.now.program) (reached (tables self.now.flow.now.program) to.now) (reached (tables self.now.flow.now.program) from.now) ≡ true }
         ensures safe { AreSafe self.now.flow.now.program self.now.frames.items (top_of self.now.frames.items) result }
+        ensures exact { (k : ℕ) → InState self.now (λ s. IsDecided self.now s k (meaning.copy (chart_of self.now.flow.now) s to.now from.now) result) }
     {
         let target = self.spot(to)?;
         let source = self.spot(from)?;
@@ -253,6 +273,7 @@ impl<'a> Machine<'a> {
     /// The result of a function goes to the slot of the activation that called it.
     fn return_from(&self, call: u32, at: u32) -> Decision<'a>
         ensures safe { IfOk result (λ o. IfSome o (λ d. LandsAt self.now.flow.now.program self.now.frames.items (top_of self.now.frames.items - 1) d × (top_call self.now.frames.items ≡ Some call))) }
+        ensures exact { (k : ℕ) → InState self.now (λ s. IsDecided self.now s k (meaning.return_from (chart_of self.now.flow.now) s call at) result) }
     {
         let Some(made) = self.top().call else {
             return Ok(None);
@@ -285,9 +306,11 @@ impl<'a> Machine<'a> {
         }
     }
 
-    /// The result of the latest activation, which must be defined at the exit.
+    /// The result of the latest activation, which is of a function. It must be defined at the exit.
     fn result(&self, at: u32) -> Result<i32, Fault>
+        requires { is_function (tables self.now.flow.now.program) (top_routine self.now.frames.items) ≡ true }
         ensures number { IfOk result IsNumber }
+        ensures exact { InState self.now (λ s. meaning.result_value at (s.store (whole (top_depth s.stack) (meaning.result_of (chart_of self.now.flow.now) s.stack))) ≡ result) }
     {
         let undefined = Fault {
             kind: Kind::NoResult,
@@ -308,6 +331,7 @@ impl<'a> Machine<'a> {
     /// The variable for the result of the latest activation's routine.
     fn result_variable(&self) -> Option<u32>
         ensures result_variable { IfSome result (IsOwn self.now.flow.now.program self.now.frames.items (top_of self.now.frames.items)) }
+        ensures is { result ≡ result_in (tables self.now.flow.now.program) (top_routine self.now.frames.items) }
     {
         let flow = self.flow;
         flow.program.routines.get(self.top().routine)?.result
@@ -318,6 +342,7 @@ impl<'a> Machine<'a> {
         requires types { is_of_host true (hosted (tables self.now.flow.now.program) cond.now) ≡ true }
         requires scopes { each_expr (scope_in self.now.flow.now.program (top_routine self.now.frames.items)) cond.now ≡ true }
         ensures safe { AreSafe self.now.flow.now.program self.now.frames.items (top_of self.now.frames.items) result }
+        ensures exact { (k : ℕ) → InState self.now (λ s. IsDecided self.now s k (meaning.test (chart_of self.now.flow.now) s cond.now wanted) result) }
     {
         if self.value(cond)? == i32::from(wanted) {
             self.does(Change::Nothing)
@@ -331,6 +356,7 @@ impl<'a> Machine<'a> {
         requires types { (hosted (tables self.now.flow.now.program) of.now).fits ≡ true }
         requires scopes { each_expr (scope_in self.now.flow.now.program (top_routine self.now.frames.items)) of.now ≡ true }
         ensures safe { AreSafe self.now.flow.now.program self.now.frames.items (top_of self.now.frames.items) result }
+        ensures exact { (k : ℕ) → InState self.now (λ s. IsDecided self.now s k (meaning.arm (chart_of self.now.flow.now) s of.now consts.now) result) }
     {
         if consts.contains(&self.value(of)?) {
             self.does(Change::Nothing)
@@ -354,6 +380,7 @@ impl<'a> Machine<'a> {
         requires bound_seen { is_visible (tables self.now.flow.now.program) (top_routine self.now.frames.items) bound ≡ true }
         requires bound_scalar { is_scalar (type_of_var (tables self.now.flow.now.program) bound) ≡ true }
         ensures safe { AreSafe self.now.flow.now.program self.now.frames.items (top_of self.now.frames.items) result }
+        ensures exact { (k : ℕ) → InState self.now (λ s. IsDecided self.now s k (meaning.enter (chart_of self.now.flow.now) s control bound first.now down last.now) result) }
     {
         let x = self.value(first)?;
         let y = self.value(last)?;
@@ -383,6 +410,7 @@ impl<'a> Machine<'a> {
         requires control_seen { is_visible (tables self.now.flow.now.program) (top_routine self.now.frames.items) control ≡ true }
         requires scalar { is_scalar (type_of_var (tables self.now.flow.now.program) control) ≡ true }
         ensures safe { AreSafe self.now.flow.now.program self.now.frames.items (top_of self.now.frames.items) result }
+        ensures exact { (k : ℕ) → InState self.now (λ s. IsDecided self.now s k (meaning.bypass (chart_of self.now.flow.now) s control first.now down last.now) result) }
     {
         let x = self.value(first)?;
         let y = self.value(last)?;
@@ -400,6 +428,7 @@ impl<'a> Machine<'a> {
         requires bound_seen { is_visible (tables self.now.flow.now.program) (top_routine self.now.frames.items) bound ≡ true }
         requires bound_scalar { is_scalar (type_of_var (tables self.now.flow.now.program) bound) ≡ true }
         ensures safe { AreSafe self.now.flow.now.program self.now.frames.items (top_of self.now.frames.items) result }
+        ensures exact { (k : ℕ) → InState self.now (λ s. IsDecided self.now s k (meaning.next_turn (chart_of self.now.flow.now) s control bound down at) result) }
     {
         let address = self.address_of(control);
         let x = self.used(address, at)?;
@@ -422,6 +451,7 @@ impl<'a> Machine<'a> {
         requires bound_seen { is_visible (tables self.now.flow.now.program) (top_routine self.now.frames.items) bound ≡ true }
         requires bound_scalar { is_scalar (type_of_var (tables self.now.flow.now.program) bound) ≡ true }
         ensures safe { AreSafe self.now.flow.now.program self.now.frames.items (top_of self.now.frames.items) result }
+        ensures exact { (k : ℕ) → InState self.now (λ s. IsDecided self.now s k (meaning.finish (chart_of self.now.flow.now) s control bound down at) result) }
     {
         let x = self.used(self.address_of(control), at)?;
         let y = self.used(self.address_of(bound), at)?;
@@ -436,6 +466,7 @@ impl<'a> Machine<'a> {
         requires seen { is_visible (tables self.now.flow.now.program) (top_routine self.now.frames.items) var ≡ true }
         requires scalar { is_scalar (type_of_var (tables self.now.flow.now.program) var) ≡ true }
         ensures safe { AreSafe self.now.flow.now.program self.now.frames.items (top_of self.now.frames.items) result }
+        ensures exact { (k : ℕ) → InState self.now (λ s. IsDecided self.now s k (meaning.does (chart_of self.now.flow.now) s (meaning.sets ((view_in self.now s).place var) None ∷ [])) result) }
     {
         self.does(Change::Set {
             address: self.address_of(var),
@@ -448,6 +479,7 @@ impl<'a> Machine<'a> {
         requires target { is_target (tables self.now.flow.now.program) false (reached (tables self.now.flow.now.program) to.now) ≡ true }
         requires scopes { each_access (scope_in self.now.flow.now.program (top_routine self.now.frames.items)) to.now ≡ true }
         ensures safe { AreSafe self.now.flow.now.program self.now.frames.items (top_of self.now.frames.items) result }
+        ensures exact { (k : ℕ) → InState self.now (λ s. IsDecided self.now s k (meaning.read (chart_of self.now.flow.now) s to.now) result) }
     {
         let address = self.spot(to)?;
         let Some((number, rest)) = next_number(self.items) else {
@@ -476,6 +508,7 @@ impl<'a> Machine<'a> {
         requires types { item_fits (tables self.now.flow.now.program) item.now ≡ true }
         requires scopes { each_item (scope_in self.now.flow.now.program (top_routine self.now.frames.items)) item.now ≡ true }
         ensures safe { AreSafe self.now.flow.now.program self.now.frames.items (top_of self.now.frames.items) result }
+        ensures exact { (k : ℕ) → InState self.now (λ s. IsDecided self.now s k (meaning.write (chart_of self.now.flow.now) s item.now) result) }
     {
         let text = match &item.value {
             WriteValue::Value(e) => self.text_of(e)?,
@@ -493,6 +526,7 @@ impl<'a> Machine<'a> {
         requires numbers { each_expr (numbers_in self.now.flow.now.program) e.now ≡ true }
         requires types { (hosted (tables self.now.flow.now.program) e.now).fits ≡ true }
         requires scopes { each_expr (scope_in self.now.flow.now.program (top_routine self.now.frames.items)) e.now ≡ true }
+        ensures exact { InState self.now (λ s. meaning.written_value (chart_of self.now.flow.now) s (written.Value e.now) ≡ then_with result (λ t. Ok (text_of t))) }
     {
         let z = self.value(e)?;
         if self.is_boolean(e) {
@@ -536,6 +570,7 @@ impl<'a> Machine<'a> {
         requires numbers { each_expr (numbers_in self.now.flow.now.program) width.now ≡ true }
         requires types { (hosted (tables self.now.flow.now.program) width.now).fits ≡ true }
         requires scopes { each_expr (scope_in self.now.flow.now.program (top_routine self.now.frames.items)) width.now ≡ true }
+        ensures exact { InState self.now (λ s. then_with (value (view_in self.now s) width.now) (λ z. checked (is_width z) kind.WidthOutOfRange (out-Expr width.now).first z) ≡ then_with result (λ n. Ok (pos n))) }
     {
         let z = self.value(width)?;
         let z = checked(1 <= z && z <= 10000, Kind::WidthOutOfRange, width.first, z)?;

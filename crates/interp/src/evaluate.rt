@@ -1,13 +1,19 @@
 //! The value of an expression, and where a variable lies (ISO 7185, 6.5 and 6.7).
 ghost use Rattle.std.specs.Prelude.{◌≡◌, ◌<◌, ◌≤◌, length, map, slice_get, unwrap_or, IfOk, None, Some, true};
 ghost use Rattle.arithmetic.specs.Numbers.{IsNumber};
+ghost use Rattle.pas_program.specs.declared.expr.Actual.TheViews.{out-Access};
 ghost use Rattle.pas_program.specs.Checked.{numbers_in, scope_in, tables};
 ghost use Rattle.pas_program.specs.Each.{all_true, each_access, each_expr};
 ghost use Rattle.pas_program.specs.Tables.{is_around, is_visible};
 ghost use Rattle.pas_program.specs.Typed.{hosted, reached, subscripted, type_of_var};
 ghost use Rattle.pas_program.specs.Types.{is_scalar};
-ghost use Rattle.control_points.specs.Evaluation.{checked, defined, is_value_of, placed, var_type};
-ghost use Rattle.interp.specs.Places.{place_in};
+ghost use Rattle.control_points.specs.Actions.{top_depth};
+ghost use Rattle.control_points.specs.Evaluation as meaning;
+ghost use Rattle.control_points.specs.Evaluation.{checked, defined, is_value_of, placed, subscript_values, var_type};
+ghost use Rattle.control_points.specs.Finding.{around, place_of};
+ghost use Rattle.control_points.specs.Storage.{Place, whole};
+ghost use Rattle.interp.specs.Meant.{InState, IsPart, IsSpot, valued, view_in};
+ghost use Rattle.interp.specs.Places.{Lies, place_in};
 ghost use Rattle.interp.specs.Deeds.{HasRoom, IsOwn};
 ghost use Rattle.interp.specs.Layouts.{count_of};
 ghost use Rattle.interp.specs.Machines.{end_of, routine_of, top_of, top_routine};
@@ -43,6 +49,7 @@ impl Machine<'_> {
     pub(crate) fn depth_of(&self, routine: usize) -> usize
         requires { is_around (tables self.now.flow.now.program) (top_routine self.now.frames.items) routine ≡ true }
         ensures found { routine_of self.now.frames.items result ≡ Some routine }
+        ensures around { InState self.now (λ s. around s.stack (top_depth s.stack) routine ≡ Some result) }
     {
         let mut depth = self.frames.len() - 1;
         'around: loop {
@@ -62,6 +69,7 @@ impl Machine<'_> {
         requires in_range { var < length self.now.flow.now.program.vars }
         requires visible { is_visible (tables self.now.flow.now.program) (top_routine self.now.frames.items) var ≡ true }
         ensures room { HasRoom self.now.flow.now.program self.now.frames.items (var_type (tables self.now.flow.now.program) var) result }
+        ensures exact { InState self.now (λ s. Lies self.now.flow.now.program self.now.frames.items (place_of (tables self.now.flow.now.program) s.stack (top_depth s.stack) var) result (var_type (tables self.now.flow.now.program) var)) }
     {
         let def = self.flow.program.var_def(var);
         let depth = self.depth_of(def.routine as usize);
@@ -76,6 +84,7 @@ impl Machine<'_> {
         requires in_range { var < length self.now.flow.now.program.vars }
         requires own { IsOwn self.now.flow.now.program self.now.frames.items depth var }
         ensures room { HasRoom self.now.flow.now.program self.now.frames.items (var_type (tables self.now.flow.now.program) var) result }
+        ensures exact { Lies self.now.flow.now.program self.now.frames.items (whole depth var) result (var_type (tables self.now.flow.now.program) var) }
     {
         self.frames[depth].base.scalars + self.offset_of(var).scalars
     }
@@ -87,6 +96,7 @@ impl Machine<'_> {
         requires types { (reached (tables self.now.flow.now.program) access.now).fits ≡ true }
         requires scopes { each_access (scope_in self.now.flow.now.program (top_routine self.now.frames.items)) access.now ≡ true }
         ensures room { IfOk result (HasRoom self.now.flow.now.program self.now.frames.items (reached (tables self.now.flow.now.program) access.now).of_type) }
+        ensures exact { InState self.now (λ s. IsSpot self.now.flow.now.program self.now.frames.items (reached (tables self.now.flow.now.program) access.now).of_type (out-Access access.now).at (meaning.spot (view_in self.now s) access.now) result) }
     {
         let of_type = self.flow.program.var_def(access.var).of_type;
         let address = self.address_of(access.var);
@@ -102,6 +112,7 @@ impl Machine<'_> {
         requires types { (subscripted (tables self.now.flow.now.program) of_type (map (hosted (tables self.now.flow.now.program)) subscripts.now)).fits ≡ true }
         requires scopes { all_true (map (each_expr (scope_in self.now.flow.now.program (top_routine self.now.frames.items))) subscripts.now) ≡ true }
         ensures room { IfOk result (HasRoom self.now.flow.now.program self.now.frames.items (subscripted (tables self.now.flow.now.program) of_type (map (hosted (tables self.now.flow.now.program)) subscripts.now)).of_type) }
+        ensures exact { InState self.now (λ s. (q : Place) → Lies self.now.flow.now.program self.now.frames.items q address of_type → IsPart self.now.flow.now.program self.now.frames.items q (subscripted (tables self.now.flow.now.program) of_type (map (hosted (tables self.now.flow.now.program)) subscripts.now)).of_type (subscript_values (tables self.now.flow.now.program) of_type (map (valued (view_in self.now s)) subscripts.now)) result) }
     {
         let mut address = address;
         let mut of_type = of_type;
@@ -126,6 +137,7 @@ impl Machine<'_> {
         requires types { (hosted (tables self.now.flow.now.program) e.now).fits ≡ true }
         requires scopes { each_expr (scope_in self.now.flow.now.program (top_routine self.now.frames.items)) e.now ≡ true }
         ensures number { IfOk result IsNumber }
+        ensures exact { InState self.now (λ s. meaning.value (view_in self.now s) e.now ≡ result) }
     {
         match &e.form {
             ExprForm::Const { value, .. } => Ok(*value),
@@ -155,6 +167,7 @@ impl Machine<'_> {
         requires types { (hosted (tables self.now.flow.now.program) e.now).fits ≡ true }
         requires scopes { each_expr (scope_in self.now.flow.now.program (top_routine self.now.frames.items)) e.now ≡ true }
         ensures number { IfOk result IsNumber }
+        ensures exact { InState self.now (λ s. meaning.assigned (view_in self.now s) of_type e.now ≡ result) }
     {
         let z = self.value(e)?;
         checked(

@@ -1,8 +1,13 @@
 //! What an action does to the machine.
-ghost use Rattle.std.specs.Prelude.{◌≡◌, ◌≤◌, length, slice_get, Some};
+ghost use Rattle.std.specs.Prelude.{◌≡◌, ◌≤◌, length, slice_get, OnErr, OnOk, Some};
+ghost use Rattle.control_points.specs.Actions as meaning;
+ghost use Rattle.control_points.specs.Actions.{Outcome};
 ghost use Rattle.control_points.specs.Fits.{routine_at};
+ghost use Rattle.control_points.specs.Steps.{after};
 ghost use Rattle.interp.specs.Deeds.{changed, FitsIn, IsDeedOf, IsEffect};
 ghost use Rattle.interp.specs.Machines.{routine_of};
+ghost use Rattle.interp.specs.Meant.{InState, IsAfter, IsDone, IsEffectOf, after_edge};
+ghost use Rattle.interp.specs.Standing.{StandsFor};
 
 use crate::call::Refusal;
 use crate::decide::{Change, Deed, Effect};
@@ -14,6 +19,8 @@ impl<'a> Machine<'a> {
     /// Does what an edge asks.
     pub(crate) fn follow(&mut self, edge: u32, deed: Deed<'a>) -> Result<Progress, AllocError>
         requires { IsDeedOf self.old.flow.now self.old.frames.items edge deed }
+        ensures flow { self.new.flow.now ≡ self.old.flow.now }
+        ensures exact { InState self.old (λ s. (outcome : Outcome) → IsDone self.old s edge outcome deed → IsAfter (after_edge self.old s edge outcome) s self.new result) }
     {
         let flow = self.flow;
         let target = flow.edges()[edge as usize].to as usize;
@@ -39,6 +46,8 @@ impl<'a> Machine<'a> {
         requires effect { IsEffect self.old.flow.now.program self.old.frames.items effect }
         requires point { routine_at self.old.flow.now.points point ≡ routine_of self.old.frames.items effect.depth }
         ensures flow { self.new.flow.now ≡ self.old.flow.now }
+        ensures landed { InState self.old (λ s. (defined : meaning.Effect) → IsEffectOf self.old s defined effect → OnOk result (StandsFor self.new (after s point defined))) }
+        ensures kept { InState self.old (λ s. OnErr result (StandsFor self.new s)) }
     {
         if let Some(output) = effect.output {
             write(&mut self.output, output)?;

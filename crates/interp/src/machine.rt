@@ -1,15 +1,12 @@
 ghost use Rattle.std.specs.Prelude.{◌≡◌};
 ghost use Rattle.control_points.specs.Chart.{entry_of, is_entry};
-ghost use Rattle.control_points.specs.Leading.{EntriesFit, EdgesLead};
-ghost use Rattle.control_points.specs.Runs.{IsInput};
 ghost use Rattle.interp.specs.Layouts.{IsLayout};
 ghost use Rattle.interp.specs.Machines.{AreFrames, AreItems, AreLinks, AreScalars};
 
-use crate::frame::{Extent, Frame};
+use crate::frame::Frame;
 use crate::layout::Layout;
 use control_points::{Fault, Flow, Item, PointKind};
 use px_base::Kind;
-use std::alloc::{AllocError, Global};
 
 /// What came of a step.
 #[derive(Clone, Copy, Debug, PartialEq, Eq)]
@@ -36,7 +33,6 @@ pub struct Machine<'a> {
     /// The scalars of the other variables of all activations. What is undefined has no number.
     pub(crate) scalars: Vec<Option<i32>>,
     pub(crate) output: Vec<u8>,
-    pub(crate) ghost leads: { EdgesLead flow.now.points flow.now.edges },
     pub(crate) ghost laid_out: { IsLayout flow.now.program layout },
     pub(crate) ghost input: { AreItems items.now },
     pub(crate) ghost framed: { AreFrames flow.now frames.items },
@@ -44,75 +40,24 @@ pub struct Machine<'a> {
     pub(crate) ghost stored: { AreScalars flow.now.program frames.items scalars.items },
 }
 
-impl<'a> Machine<'a> {
-    /// The program's block at its entry, with nothing stored.
-    pub fn new(alloc: Global, flow: &'a Flow, items: &'a [Item]) -> Result<Machine<'a>, AllocError>
-        requires input { IsInput items.now }
-        requires entries { EntriesFit flow.now.program flow.now.points }
-        requires leads { EdgesLead flow.now.points flow.now.edges }
-    {
-        let layout = Layout::new(alloc, flow.program())?;
-        let routine = flow.program().routines.len() - 1;
-        let extent = layout.extents[routine];
-        let mut scalars = Vec::new(alloc);
-        scalars.resize(extent.scalars, None)?;
-        let links = vec![in alloc; 0; extent.links]?;
-        let mut frames = Vec::new(alloc);
-        frames.push(Frame {
-            routine,
-            call: None,
-            parent: None,
-            point: entry_of(flow, routine),
-            base: Extent {
-                scalars: 0,
-                links: 0,
-            },
-        })?;
-        Ok(Machine {
-            flow,
-            layout,
-            items,
-            frames,
-            links,
-            scalars,
-            output: Vec::new(alloc),
-        })
-    }
-
-    /// Goes to the next state. After `Halted` or `Error` each call answers the same.
-    ///
-    /// # Errors
-    ///
-    /// Where memory is lacking, and the machine is as it was.
-    pub fn step(&mut self) -> Result<Progress, AllocError> {
-        if self.is_halted() {
-            return Ok(Progress::Halted);
-        }
-        match self.decide() {
-            Err(fault) => Ok(error(fault)),
-            Ok(None) => Ok(error(self.no_case_label())),
-            Ok(Some((edge, deed))) => self.follow(edge, deed),
-        }
-    }
-
-    /// Whether it stands at the exit of the program's block, which is the last point.
-    fn is_halted(&self) -> bool {
-        self.frames.len() == 1 && self.frames[0].point == self.flow.points().len() - 1
-    }
-
+impl Machine<'_> {
     /// The output, when the run is not to go on.
-    pub(crate) fn into_output(self) -> Vec<u8> {
+    pub(crate) fn into_output(self) -> Vec<u8>
+        ensures { result ≡ self.entry.output }
+    {
         self.output
     }
 
     /// The output so far.
-    pub fn output(&self) -> &[u8] {
+    pub fn output(&self) -> &[u8]
+        ensures { result.now ≡ self.now.output.items }
+    {
         self.output.as_slice()
     }
 }
 
 /// The entry of a routine.
-fn entry_of(flow: &Flow, routine: usize) -> usize
+pub(crate) fn entry_of(flow: &Flow, routine: usize) -> usize
     ensures { result ≡ entry_of flow.now.points routine }
 {
     let points = flow.points();

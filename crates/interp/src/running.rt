@@ -1,7 +1,7 @@
 ghost use Rattle.std.specs.Prelude.{◌≡◌, IfOk};
-ghost use Rattle.control_points.specs.Leading.{EntriesFit, EdgesLead};
+ghost use Rattle.control_points.specs.Flows.{chart_of};
 ghost use Rattle.control_points.specs.Runs.{IsInput};
-ghost use Rattle.interp.specs.RunText.{IsBounded};
+ghost use Rattle.interp.specs.RunText.{IsBounded, IsEnd};
 
 use crate::machine::{Machine, Progress};
 use control_points::{Fault, Flow, Item};
@@ -35,8 +35,7 @@ pub struct Ended {
 /// Where memory is lacking.
 pub fn run(alloc: Global, flow: &Flow, items: &[Item], limit: u32) -> Result<Ended, AllocError>
     requires input { IsInput items.now }
-    requires entries { EntriesFit flow.now.program flow.now.points }
-    requires leads { EdgesLead flow.now.points flow.now.edges }
+    ensures ended { IfOk result (IsEnd (chart_of flow.now) items.now limit) }
     ensures bounded { IfOk result (IsBounded limit) }
 {
     let mut machine = Machine::new(alloc, flow, items)?;
@@ -64,6 +63,7 @@ pub fn run(alloc: Global, flow: &Flow, items: &[Item], limit: u32) -> Result<End
 fn stopped(machine: Machine<'_>, ending: Ending, steps: u32) -> Ended
     ensures ending { result.ending ≡ ending }
     ensures steps { result.steps ≡ steps }
+    ensures output { result.output ≡ machine.entry.output }
 {
     Ended {
         ending,

@@ -1,4 +1,7 @@
 //! The text that `write` gives (ISO 7185, 6.9.3).
+ghost use Rattle.std.specs.Prelude.{◌≡◌, ◌++◌, false, true, OnErr, OnOk, Some};
+ghost use Rattle.control_points.specs.Output.{Written};
+ghost use Rattle.interp.specs.Meant.{bytes_of, in_width};
 
 use itoa::Buffer;
 use std::alloc::AllocError;
@@ -24,7 +27,10 @@ pub(crate) struct Output<'a> {
 /// # Errors
 ///
 /// Where memory is lacking; then nothing is written.
-pub(crate) fn write(to: &mut Vec<u8>, output: Output<'_>) -> Result<(), AllocError> {
+pub(crate) fn write(to: &mut Vec<u8>, output: Output<'_>) -> Result<(), AllocError>
+    ensures written { OnOk result (to.new.items ≡ to.old.items ++ bytes_of (Some output)) }
+    ensures kept { OnErr result (to.new.items ≡ to.old.items) }
+{
     match output.text {
         Text::Number(z) => {
             let mut buffer = Buffer::new();
@@ -37,7 +43,10 @@ pub(crate) fn write(to: &mut Vec<u8>, output: Output<'_>) -> Result<(), AllocErr
 }
 
 /// Writes the text, of which a width may cut the end off.
-fn cut(to: &mut Vec<u8>, text: &[u8], width: Option<u16>) -> Result<(), AllocError> {
+fn cut(to: &mut Vec<u8>, text: &[u8], width: Option<u16>) -> Result<(), AllocError>
+    ensures written { OnOk result (to.new.items ≡ to.old.items ++ in_width width (record { bytes = text.now; is_cut = true })) }
+    ensures kept { OnErr result (to.new.items ≡ to.old.items) }
+{
     match width {
         Some(columns) if usize::from(columns) < text.len() => {
             in_columns(to, &text[..usize::from(columns)], width)
@@ -47,7 +56,10 @@ fn cut(to: &mut Vec<u8>, text: &[u8], width: Option<u16>) -> Result<(), AllocErr
 }
 
 /// Writes the text at the right of the columns.
-fn in_columns(to: &mut Vec<u8>, text: &[u8], width: Option<u16>) -> Result<(), AllocError> {
+fn in_columns(to: &mut Vec<u8>, text: &[u8], width: Option<u16>) -> Result<(), AllocError>
+    ensures written { OnOk result (to.new.items ≡ to.old.items ++ in_width width (record { bytes = text.now; is_cut = false })) }
+    ensures kept { OnErr result (to.new.items ≡ to.old.items) }
+{
     let columns = usize::from(width.unwrap_or(0));
     let before = to.len();
     to.resize(before + columns.saturating_sub(text.len()), b' ')?;

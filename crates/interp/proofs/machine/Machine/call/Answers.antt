@@ -71,7 +71,6 @@ invariant_of-self c =
     let base : end_of p fs ≡ c.end-base.result = ap (λ (f : Flow). end_of f.program fs) flow ∙ ap (end_of m.flow.now.program) frames ∙ sym c.end-base.ensures in
     let made : Extent → List Frame = λ x. fs ++ new_frame c.args.routine c.args.edge c.parent_of-parent.result c.args.point x ∷ [] in
     record {
-      leads = o.leads;
       laid_out = o.laid_out;
       input = o.input;
       framed = one_of (AreFrames o.flow.now) (is_ok c.push.result) (made c.end-base.result) fs c.push.new.self.items c.push.ensures.items

@@ -11,7 +11,7 @@ pub land-requires-clause-point : goal.land-requires-clause-point
 land-requires-clause-point c =
     let m = c.args.self.now in
     let d = c.requires in
-    let l = asked_lands m.flow.now m.frames.items m.leads m.framed c.args.edge d.edge d.known d.leaves c.in-Lands.effect d.edge.act refl (subst (IsAsked m.flow.now.program m.frames.items d.edge.act) c.in-Lands.is d.asked) in
+    let l = asked_lands m.flow.now m.frames.items m.flow.now.edges_lead m.framed c.args.edge d.edge d.known d.leaves c.in-Lands.effect d.edge.act refl (subst (IsAsked m.flow.now.program m.frames.items d.edge.act) c.in-Lands.is d.asked) in
     ap (λ (e : Edge). routine_at m.flow.now.points e.to) (ap (λ xs. get_or xs c.args.edge c.index-edges-edge.result) c.edges.ensures ∙ get_or_from_slice_get m.flow.now.edges c.args.edge d.edge c.index-edges-edge.result d.known) ∙ l.point
 
 pub call-requires-clause-target : goal.call-requires-clause-target

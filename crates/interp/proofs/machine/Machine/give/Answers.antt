@@ -41,7 +41,6 @@ pub invariant_of-self-in-Variable : goal.invariant_of-self-in-Variable
 invariant_of-self-in-Variable c =
     let m = c.args.self.now in
     record {
-      leads = m.leads;
       laid_out = m.laid_out;
       input = m.input;
       framed = m.framed;
@@ -55,7 +54,6 @@ invariant_of-self c =
     let g = giving m.flow.now.program m.frames.items c.args.formal c.args.base c.offset_of-offset.result m.links.items m.scalars.items c.requires.in_range c.requires.base c.requires.room c.offset_of-offset.ensures in
     let a = subst (IsArgument m.flow.now.program m.frames.items c.args.formal) c.in-Number.is c.requires.argument in
     record {
-      leads = m.leads;
       laid_out = m.laid_out;
       input = m.input;
       framed = m.framed;
@@ -69,7 +67,6 @@ invariant_of-self-in-Array c =
     let g = giving m.flow.now.program m.frames.items c.args.formal c.args.base c.offset_of-offset.result m.links.items m.scalars.items c.requires.in_range c.requires.base c.requires.room c.offset_of-offset.ensures in
     let b = give_array m.flow.now.program m.frames.items c.args.formal c.args.base c.offset_of-offset.result m.links.items m.scalars.items g c.in-Array.from c.in-Array.count (subst (IsArgument m.flow.now.program m.frames.items c.args.formal) c.in-Array.is c.requires.argument) m.stored.room in
     record {
-      leads = m.leads;
       laid_out = m.laid_out;
       input = m.input;
       framed = m.framed;

@@ -22,7 +22,6 @@ invariant_of-self-2 c =
     let is : set c.truncate.new.self.items n (moved_to c.index_mut.result.now c.args.point) ≡ take n fs ++ moved_to g c.args.point ∷ [] =
     ap (λ (x : Frame). set c.truncate.new.self.items n (moved_to x c.args.point)) read ∙ ap (λ xs. set xs n (moved_to g c.args.point)) c.truncate.ensures.items ∙ set_last fs n (moved_to g c.args.point) c.requires.effect.depth in
     record {
-      leads = m.leads;
       laid_out = m.laid_out;
       input = c.requires.effect.items;
       framed = subst (AreFrames f) (sym is) (landed_frames f fs m.framed n c.args.point g w.1 c.requires.point);

@@ -24,7 +24,6 @@ pub invariant_of-self : goal.invariant_of-self
 invariant_of-self c =
     let m = c.args.self.now in
     record {
-      leads = m.leads;
       laid_out = m.laid_out;
       input = m.input;
       framed = m.framed;
@@ -38,7 +37,6 @@ invariant_of-self-2 c =
     let b = ap (λ (x : Extent). x.scalars) c.requires.base in
     let l = ap (λ (x : Extent). x.links) c.requires.base in
     record {
-      leads = m.leads;
       laid_out = m.laid_out;
       input = m.input;
       framed = m.framed;
