@@ -10,6 +10,7 @@ pub mod Frames
 pub mod Giving
 pub mod InputLemmas
 pub mod Landed
+pub mod Landing
 pub mod Laying
 pub mod Lists
 pub mod Lying

@@ -15,6 +15,7 @@ mod layout;
 mod machine;
 mod running;
 mod shown;
+mod stepping;
 mod write;
 
 pub use control_points::Item;

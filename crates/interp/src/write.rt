@@ -28,7 +28,7 @@ pub(crate) struct Output<'a> {
 ///
 /// Where memory is lacking; then nothing is written.
 pub(crate) fn write(to: &mut Vec<u8>, output: Output<'_>) -> Result<(), AllocError>
-    ensures written { OnOk result (to.new.items ≡ to.old.items ++ bytes_of (Some output)) }
+    ensures written { OnOk result (to.new.items ≡ to.old.items ++ bytes_of (Some output.entry)) }
     ensures kept { OnErr result (to.new.items ≡ to.old.items) }
 {
     match output.text {
