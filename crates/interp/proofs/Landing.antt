@@ -2,6 +2,8 @@
 use Rattle.std.proofs.Common.{◌≡◌, ℕ, zero, suc, ◌+◌, ◌-◌, ◌<◌, ◌≤◌, Bool, true, false, ◌&&◌, List, [], ◌∷◌, ◌++◌, length, take, refl, sym, ap, ◌∙◌, subst, arith, ℤ, Option, Some, None, inl, inr, nat_eq}
 use Rattle.std.specs.List.{slice_get}
 use Rattle.std.proofs.lemmas.Bool.{cases_Bool, cond-true, cond-false, eqb-false, eqb-true, eq-eqb}
+use Rattle.std.proofs.Common.{length-append}
+use Rattle.std.proofs.lemmas.Bool.Decides.{eqb_tells}
 use Rattle.std.proofs.lemmas.List.{length-take-le}
 use Rattle.std.proofs.lemmas.Option.{none-some, slice_get_within}
 use Rattle.pas_program.specs.declared.program.Program.{Program}
@@ -118,3 +120,68 @@ bound_moved p old new links n same d g h a b v x l e f i = record {
   link = ap (λ (y : Extent). slice_get links (y.links + (extent_before p x.routine v).links)) e ∙ i.link;
   lies = lies_moved p old new n same i.place i.address x.of_type (let k = i.below in omega arith) i.lies;
 }
+
+-- the frame keeps the activation where both are the same but for the point
+pub kept_moved : (p : Program) (old new : List Frame) (links : List ℕ) (n : ℕ) → AreSameBelow old new n → (d : ℕ) (g h : Frame) (a b : Activation) → d ≤ n → h.base ≡ g.base → h.routine ≡ g.routine → h.call ≡ g.call → h.parent ≡ g.parent
+    → b.frame ≡ a.frame → (a.point ≡ g.point → b.point ≡ h.point) → IsKept p old links d g a → IsKept p new links d h b
+kept_moved p old new links n same d g h a b l base routine call parent f point k = record {
+  known = ap (λ (y : States.Frame). y.routine) f ∙ k.known ∙ sym routine;
+  call = ap (λ (y : States.Frame). y.call) f ∙ k.call ∙ sym call;
+  parent = ap (λ (y : States.Frame). y.parent) f ∙ k.parent ∙ sym parent;
+  point = point k.point;
+  bound = λ v x e o i. bound_moved p old new links n same d g h a b v x l base f (k.bound v x e (o ∙ routine) i);
+}
+
+-- ---- the activations that go on
+
+module _ (frames : List Frame) (n p : ℕ) (g : Frame) (e : slice_get frames n ≡ Some g) where
+  landed_long : length (take n frames) ≡ n
+  landed_long = let l = slice_get_within frames n g e in length-take-le n frames (omega arith)
+
+  landed_height : length (take n frames ++ moved_to g p ∷ []) ≡ suc n
+  landed_height = let l = landed_long in omega (arith, length-append (take n frames) (moved_to g p ∷ []))
+
+  landed_last : slice_get (take n frames ++ moved_to g p ∷ []) n ≡ Some (moved_to g p)
+  landed_last = ap (slice_get (take n frames ++ moved_to g p ∷ [])) (sym landed_long) ∙ slice_get-last (take n frames) (moved_to g p)
+
+  landed_front : (d : ℕ) → d < n → slice_get (take n frames ++ moved_to g p ∷ []) d ≡ slice_get frames d
+  landed_front d h = slice_get-front (take n frames) (moved_to g p ∷ []) d (let l = landed_long in omega arith) ∙ slice_get-take frames n d h
+
+  pub landed_same : AreSameBelow frames (take n frames ++ moved_to g p ∷ []) (suc n)
+  landed_same d x h k =
+      elim (eqb_tells d n) [
+        | inl w ↦
+            let s : x ≡ g = same_some x g (sym k ∙ ap (slice_get frames) w.1 ∙ e) in
+            record { frame = moved_to g p; known = ap (slice_get (take n frames ++ moved_to g p ∷ [])) w.1 ∙ landed_last; base = ap (λ (y : Frame). y.base) (sym s); routine = ap (λ (y : Frame). y.routine) (sym s) }
+        | inr w ↦ let b : d < n = (let c = w.1 in omega arith) in record { frame = x; known = landed_front d b ∙ k; base = refl; routine = refl }
+      ]
+
+  pub landed_back : AreSameBelow (take n frames ++ moved_to g p ∷ []) frames (suc n)
+  landed_back d x h k =
+      elim (eqb_tells d n) [
+        | inl w ↦
+            let s : x ≡ moved_to g p = same_some x (moved_to g p) (sym k ∙ ap (slice_get (take n frames ++ moved_to g p ∷ [])) w.1 ∙ landed_last) in
+            record { frame = g; known = ap (slice_get frames) w.1 ∙ e; base = ap (λ (y : Frame). y.base) (sym s); routine = ap (λ (y : Frame). y.routine) (sym s) }
+        | inr w ↦ let b : d < n = (let c = w.1 in omega arith) in record { frame = x; known = sym (landed_front d b) ∙ k; base = refl; routine = refl }
+      ]
+
+  pub landed_stack : (q : Program) (links : List ℕ) (stack : Stack) → StackIs q frames links stack → StackIs q (take n frames ++ moved_to g p ∷ []) links (down_to stack n p)
+  landed_stack q links stack s =
+      let l = slice_get_within frames n g e in
+      let h = s.height in
+      record {
+        height = down_height stack n p (omega arith) ∙ sym landed_height;
+        each = λ d x k. elim (slice_get-snoc (take n frames) (moved_to g p) d x k) [
+          | inl w ↦
+              let v = in_prefix frames n d x w.1 in
+              let a = s.each d x v.1 in
+              let b = v.0 in
+              (a.0, down_below stack n p d (omega arith) b ∙ a.1, kept_moved q frames _ links (suc n) landed_same d x x a.0 a.0 (omega arith) refl refl refl refl refl (λ y. y) a.2)
+          | inr w ↦
+              let a = s.each n g e in
+              let at : d ≡ n = w.0 ∙ landed_long in
+              let b : Activation = record (a.0) { point = p } in
+              (b, ap (activation_at (down_to stack n p)) at ∙ down_at stack n p a.0 a.1,
+              kept_moved q frames _ links (suc n) landed_same d g x a.0 b (omega arith) (ap (λ (y : Frame). y.base) w.1) (ap (λ (y : Frame). y.routine) w.1) (ap (λ (y : Frame). y.call) w.1) (ap (λ (y : Frame). y.parent) w.1) refl (λ y. ap (λ (y : Frame). y.point) (sym w.1)) (subst (λ d. IsKept q frames links d g a.0) (sym at) a.2))
+        ];
+      }
