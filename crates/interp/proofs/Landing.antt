@@ -138,7 +138,7 @@ module _ (frames : List Frame) (n p : ℕ) (g : Frame) (e : slice_get frames n �
   landed_long : length (take n frames) ≡ n
   landed_long = let l = slice_get_within frames n g e in length-take-le n frames (omega arith)
 
-  landed_height : length (take n frames ++ moved_to g p ∷ []) ≡ suc n
+  pub landed_height : length (take n frames ++ moved_to g p ∷ []) ≡ suc n
   landed_height = let l = landed_long in omega (arith, length-append (take n frames) (moved_to g p ∷ []))
 
   landed_last : slice_get (take n frames ++ moved_to g p ∷ []) n ≡ Some (moved_to g p)

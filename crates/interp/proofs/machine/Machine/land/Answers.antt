@@ -4,7 +4,7 @@ use Rattle.std.specs.List.{slice_get}
 use Rattle.interp.specs.declared.frame.Frame.{Frame}
 use Rattle.interp.specs.Machines.{AreFrames, AreLinks, AreScalars}
 use Rattle.interp.proofs.Landed.{moved_to, set_last, landed_frames, landed_links, landed_scalars}
-use Rattle.interp.proofs.LandingStores.{store_set}
+use Rattle.interp.proofs.LandingEffects.{store_landed}
 use Rattle.interp.proofs.Lists.{some_at, slice_get-take}
 use Rattle.interp.proofs.Numbers.{numbers_changed, length_changed, AreNumbers}
 use Rattle.interp.proofs.machine.Machine.land.Goals as goal
