@@ -12,7 +12,7 @@ ghost use Rattle.interp.specs.Standing.{StandsFor};
 use crate::call::Refusal;
 use crate::decide::{Change, Deed, Effect};
 use crate::machine::{Machine, Progress, error};
-use crate::write::write;
+use crate::write::write_any;
 use std::alloc::AllocError;
 
 impl<'a> Machine<'a> {
@@ -49,9 +49,7 @@ impl<'a> Machine<'a> {
         ensures landed { InState self.old (λ s. (defined : meaning.Effect) → IsEffectOf self.old s defined effect.entry → OnOk result (StandsFor self.new (after s point defined))) }
         ensures kept { InState self.old (λ s. OnErr result (StandsFor self.new s)) }
     {
-        if let Some(output) = effect.output {
-            write(&mut self.output, output)?;
-        }
+        write_any(&mut self.output, effect.output)?;
         change(&mut self.scalars, effect.change);
         self.frames.truncate(effect.depth + 1);
         self.frames[effect.depth].point = point;
