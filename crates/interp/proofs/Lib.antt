@@ -11,6 +11,7 @@ pub mod Giving
 pub mod InputLemmas
 pub mod Landed
 pub mod Landing
+pub mod LandingCalls
 pub mod LandingEffects
 pub mod LandingStores
 pub mod Laying

@@ -1,0 +1,82 @@
+-- The state of a machine in which only storage behind all activations changed, and that in which one more activation begins.
+use Rattle.std.proofs.Common.{◌≡◌, ℕ, suc, ◌+◌, ◌<◌, ◌≤◌, true, List, [], ◌∷◌, ◌++◌, length, refl, sym, ap, ◌∙◌, subst, arith, ℤ, Option, Some, None, inl, inr}
+use Rattle.std.proofs.Common.{length-append}
+use Rattle.std.specs.List.{slice_get}
+use Rattle.pas_program.specs.declared.program.Program.{Program}
+use Rattle.pas_program.specs.declared.variable.VarDef.{VarDef}
+use Rattle.pas_program.specs.declared.variable.VarKind.TheVariants as kind
+use Rattle.pas_program.specs.Tables.{is_kind}
+use Rattle.pas_program.specs.Types.{is_scalar}
+use Rattle.control_points.specs.declared.flow.Flow.{Flow}
+use Rattle.control_points.specs.States.{Activation, Stack}
+use Rattle.control_points.specs.Storage.{Place, Store}
+use Rattle.interp.specs.declared.frame.Frame.{Frame}
+use Rattle.interp.specs.Layouts.{count_of, extent_before}
+use Rattle.interp.specs.Machines.{AreFrames, end_of}
+use Rattle.interp.specs.Places.{Lies}
+use Rattle.interp.specs.Standing.{activation_at, IsBound, IsKept, StackIs, StoreIs}
+use Rattle.interp.proofs.Around.{activation_kept, activation_latest}
+use Rattle.interp.proofs.Landing.{AreSameBelow, kept_moved}
+use Rattle.interp.proofs.LandingStores.{store_below}
+use Rattle.interp.proofs.Lists.{same_some, slice_get-front, slice_get-snoc}
+use Rattle.interp.proofs.Lying.{lies_in}
+use Rattle.interp.proofs.Numbers.{link_place}
+use Rattle.interp.proofs.Parts.{scalar_count}
+use Rattle.std.proofs.lemmas.Option.{slice_get_within}
+
+-- ---- storage behind all activations
+
+abbrev pub AreSameTo : {A : Type 0} → ℕ → List A → List A → Type 0
+AreSameTo n old new = (i : ℕ) → i < n → slice_get new i ≡ slice_get old i
+
+module _ (flow : Flow) (frames : List Frame) (h : AreFrames flow frames) where
+  pub stack_behind : (old new : List ℕ) (stack : Stack) → AreSameTo (end_of flow.program frames).links old new → StackIs flow.program frames old stack → StackIs flow.program frames new stack
+  stack_behind old new stack same s = record {
+    height = s.height;
+    each = λ d g e.
+        let w = s.each d g e in
+        let k = w.2 in
+        (w.0, w.1, record {
+          known = k.known;
+          call = k.call;
+          parent = k.parent;
+          point = k.point;
+          bound = λ v x f o i.
+              let b = k.bound v x f o i in
+              record { place = b.place; address = b.address; bound = b.bound; below = b.below; link = same _ (link_place flow frames h d v g x e f o i) ∙ b.link; lies = b.lies };
+        });
+  }
+
+  pub store_behind : (old new : List (Option ℤ)) (store : Store) → AreSameTo (end_of flow.program frames).scalars old new → StoreIs flow.program frames old store → StoreIs flow.program frames new store
+  store_behind old new store same s =
+      store_below flow.program frames (end_of flow.program frames).scalars old new store
+      (λ q a t l k. let r = (lies_in flow frames h q a t l).room in let one = scalar_count flow.program t k in omega arith) same s
+
+-- ---- one more activation
+
+module _ (frames : List Frame) (g : Frame) where
+  pub pushed_height : length (frames ++ g ∷ []) ≡ suc (length frames)
+  pushed_height = omega (arith, length-append frames (g ∷ []))
+
+  pub pushed_same : AreSameBelow frames (frames ++ g ∷ []) (length frames)
+  pushed_same d x h k = record { frame = x; known = slice_get-front frames (g ∷ []) d h ∙ k; base = refl; routine = refl }
+
+  pub pushed_back : AreSameBelow (frames ++ g ∷ []) frames (length frames)
+  pushed_back d x h k = record { frame = x; known = sym (slice_get-front frames (g ∷ []) d h) ∙ k; base = refl; routine = refl }
+
+  pub pushed_stack : (p : Program) (links : List ℕ) (stack : Stack) (a : Activation) → StackIs p frames links stack → IsKept p frames links (length frames) g a → StackIs p (frames ++ g ∷ []) links (a ∷ stack)
+  pushed_stack p links stack a s k = record {
+    height = let e = s.height in ap suc e ∙ sym pushed_height;
+    each = λ d x e. elim (slice_get-snoc frames g d x e) [
+      | inl w ↦
+          let b = s.each d x w.1 in
+          let l = w.0 in
+          let n = s.height in
+          (b.0, activation_kept a stack d (omega arith) ∙ b.1, kept_moved p frames (frames ++ g ∷ []) links (length frames) pushed_same d x x b.0 b.0 (omega arith) refl refl refl refl refl (λ y. y) b.2)
+      | inr w ↦
+          (a, activation_latest a stack d (w.0 ∙ sym s.height),
+          subst (λ d. IsKept p (frames ++ g ∷ []) links d x a) (sym w.0)
+          (subst (λ x. IsKept p (frames ++ g ∷ []) links (length frames) x a) (sym w.1)
+          (kept_moved p frames (frames ++ g ∷ []) links (length frames) pushed_same (length frames) g g a a (omega arith) refl refl refl refl refl (λ y. y) k)))
+    ];
+  }
