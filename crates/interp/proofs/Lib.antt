@@ -24,3 +24,6 @@ pub mod Starting
 pub mod Storage
 pub mod Subscripting
 pub mod Targets
+pub mod Valuing
+pub mod ValuingExprs
+pub mod ValuingParts

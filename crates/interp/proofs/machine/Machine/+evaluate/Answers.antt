@@ -1,4 +1,4 @@
-use Rattle.std.proofs.Common.{◌≡◌, ◌+◌, ◌*◌, refl, rules, ap, arith, ◌∙◌, sym, subst, drop, map, true}
+use Rattle.std.proofs.Common.{◌≡◌, ◌+◌, ◌*◌, refl, rules, ap, arith, ◌∙◌, sym, subst, drop, map, true, Err}
 use Rattle.pas_program.specs.declared.expr.Actual.TheViews.{the_lemmas}
 use Rattle.pas_program.specs.declared.expr.Actual.TheViews as views
 use Rattle.pas_program.specs.declared.expr.ExprForm.TheVariants.{rolls-Binary, rolls-Call}
@@ -16,7 +16,15 @@ use Rattle.interp.proofs.Addresses.{scalar_room}
 use Rattle.interp.proofs.Asking.{top_is}
 use Rattle.interp.proofs.Forms.{call_each, call_scalar, right_each, right_fits, value_scalar}
 use Rattle.interp.proofs.Targets.{own_visible, scalar_place}
-use Rattle.interp.proofs.Subscripting.{leading_at, leads_same, element_room}
+use Rattle.std.specs.List.{slice_get}
+use Rattle.std.proofs.lemmas.List.{drop_all}
+use Rattle.std.proofs.lemmas.Result.{err_from_is_err_and}
+use Rattle.control_points.specs.Evaluation.{spot, subscript_values}
+use Rattle.interp.specs.Meant.{IsPart, valued, view_in}
+use Rattle.interp.specs.Places.{place_in}
+use Rattle.interp.proofs.ValuingExprs.{number_same, used_is, value_of_access}
+use Rattle.interp.proofs.ValuingParts.{IsLed, led_first, led_fails, led_outside, led_on, led_last}
+use Rattle.interp.proofs.Subscripting.{leading_at, leads_same, element_room, rest_at}
 use Rattle.interp.proofs.machine.Machine.+evaluate.Goals as goal
 
 pub element-value-requires : goal.element-value-requires
@@ -64,7 +72,68 @@ element-loop-subscript-preserved t c =
       room = subst (λ n. HasRoom p m.frames.items c.in-Array.element (c.loop-subscript.address + c.in_ok-place-in-Array.place * n)) (sym c.count_of.ensures) r.room;
       fits = subst (λ n. (subscripted (tables p) n rest).fits ≡ true) e.1 l.fits;
       leads = ap (λ n. (subscripted (tables p) n rest).of_type) (sym e.1) ∙ sym l.same ∙ sym (leads_same p c.loop-subscript.of_type i c.subscript-item.result xs c.loop-subscript-test.true c.subscript-item.is) ∙ c.loop-subscript.invariant.leads;
+      led = λ s h q w.
+          let u = subst (λ ys. IsLed p m.frames.items (view_in m s) q c.args.of_type xs ys c.loop-subscript.address c.loop-subscript.of_type) (rest_at xs i c.subscript-item.result c.loop-subscript-test.true c.subscript-item.is) (c.loop-subscript.invariant.led s h q w) in
+          subst (λ n. IsLed p m.frames.items (view_in m s) q c.args.of_type xs (drop (i + 1) xs) (c.loop-subscript.address + c.in_ok-place-in-Array.place * n) c.in-Array.element) (sym c.count_of.ensures)
+          (led_on p m.frames.items (view_in m s) q c.args.of_type xs c.loop-subscript.address c.loop-subscript.of_type c.in-Array.index c.in-Array.element c.in_ok-place-in-Array.place c.subscript-item.result (drop (i + 1) xs) c.in_ok-z.z u c.in-Array.ensures.value (c.in_ok-z.ensures.exact s h)
+          (c.in_ok-place-in-Array.ensures.value ∙ ap (λ z. place_in (slice_get p.types c.in-Array.index) z c.subscript-item.result.first) (number_same c.in_ok-z.z c.in_ok-z.ensures.number)));
     }
+
+pub element-loop-subscript-init : goal.element-loop-subscript-init
+element-loop-subscript-init t c =
+    let m = c.args.self.now in
+    record {
+      in_range = c.requires.in_range;
+      room = c.requires.whole;
+      fits = c.requires.types;
+      leads = refl;
+      led = λ s h q w. led_first m.flow.now.program m.frames.items (view_in m s) q c.args.of_type c.args.subscripts.now c.args.address w;
+    }
+
+pub element-returns-in_err-z-clause-exact : goal.element-returns-in_err-z-clause-exact
+element-returns-in_err-z-clause-exact t c = λ s h q w.
+    let m = c.args.self.now in
+    let p = m.flow.now.program in
+    let xs = c.args.subscripts.now in
+    let i = c.loop-subscript.subscript-index in
+    let n = (subscripted (tables p) c.args.of_type (map (hosted (tables p)) xs)).of_type in
+    let f = err_from_is_err_and c.from_residual.result c.from_residual.ensures.1 in
+    let u = subst (λ ys. IsLed p m.frames.items (view_in m s) q c.args.of_type xs ys c.loop-subscript.address c.loop-subscript.of_type) (rest_at xs i c.subscript-item.result c.loop-subscript-test.true c.subscript-item.is) (c.loop-subscript.invariant.led s h q w) in
+    subst (IsPart p m.frames.items q n (subscript_values (tables p) c.args.of_type (map (valued (view_in m s)) xs))) (sym (f.1 ∙ ap Err f.2))
+    (led_fails p m.frames.items (view_in m s) q c.args.of_type xs c.loop-subscript.address c.loop-subscript.of_type n c.subscript-item.result (drop (i + 1) xs) c.in_err-z.field-0.0 u (c.in_err-z.ensures.exact s h))
+
+pub element-returns-in_err-place-in-Array-clause-exact : goal.element-returns-in_err-place-in-Array-clause-exact
+element-returns-in_err-place-in-Array-clause-exact t c = λ s h q w.
+    let m = c.args.self.now in
+    let p = m.flow.now.program in
+    let xs = c.args.subscripts.now in
+    let i = c.loop-subscript.subscript-index in
+    let n = (subscripted (tables p) c.args.of_type (map (hosted (tables p)) xs)).of_type in
+    let f = err_from_is_err_and c.from_residual-in_err-place-in-Array.result c.from_residual-in_err-place-in-Array.ensures.1 in
+    let u = subst (λ ys. IsLed p m.frames.items (view_in m s) q c.args.of_type xs ys c.loop-subscript.address c.loop-subscript.of_type) (rest_at xs i c.subscript-item.result c.loop-subscript-test.true c.subscript-item.is) (c.loop-subscript.invariant.led s h q w) in
+    let v = c.in_err-place-in-Array.ensures.value ∙ ap (λ z. place_in (slice_get p.types c.in-Array.index) z c.subscript-item.result.first) (number_same c.in_ok-z.z c.in_ok-z.ensures.number) in
+    subst (IsPart p m.frames.items q n (subscript_values (tables p) c.args.of_type (map (valued (view_in m s)) xs))) (sym (f.1 ∙ ap Err f.2))
+    (led_outside p m.frames.items (view_in m s) q c.args.of_type xs c.loop-subscript.address c.loop-subscript.of_type c.in-Array.index c.in-Array.element n c.subscript-item.result (drop (i + 1) xs) c.in_ok-z.z c.in_err-place-in-Array.field-0.0 u c.in-Array.ensures.value (c.in_ok-z.ensures.exact s h) v)
+
+pub element-returns-clause-exact : goal.element-returns-clause-exact
+element-returns-clause-exact t c = λ s h q w.
+    let m = c.args.self.now in
+    let p = m.flow.now.program in
+    let xs = c.args.subscripts.now in
+    let none = drop_all c.loop-subscript.subscript-index xs c.loop-subscript-test.false in
+    let u = subst (λ ys. IsLed p m.frames.items (view_in m s) q c.args.of_type xs ys c.loop-subscript.address c.loop-subscript.of_type) none (c.loop-subscript.invariant.led s h q w) in
+    let e = subst (λ ys. (subscripted (tables p) c.loop-subscript.of_type (map (hosted (tables p)) ys)).of_type ≡ (subscripted (tables p) c.args.of_type (map (hosted (tables p)) xs)).of_type) none c.loop-subscript.invariant.leads in
+    led_last p m.frames.items (view_in m s) q c.args.of_type xs c.loop-subscript.address c.loop-subscript.of_type _ u e
+
+pub value-returns-in_ok-spot-in-Value-clause-exact : goal.value-returns-in_ok-spot-in-Value-clause-exact
+unfolding views.out-ExprForm denote.Hole.Carrier.out
+value-returns-in_ok-spot-in-Value-clause-exact t c = λ s h.
+    let m = c.args.self.now in
+    let p = m.flow.now.program in
+    let scalar = value_scalar (tables p) c.args.e.now c.in-Value.access _ c.in-Value.is refl c.requires.types in
+    value_of_access (view_in m s) c.args.e.now c.in-Value.access _ c.in-Value.is refl
+    ∙ used_is p m.frames.items m.scalars.items (view_in m s) h.store (reached (tables p) c.in-Value.access).of_type _ c.in_ok-spot-in-Value.field-0 scalar (spot (view_in m s) c.in-Value.access) (c.in_ok-spot-in-Value.ensures.exact s h)
+    ∙ sym c.used.ensures.value
 
 pub value-used-requires : goal.value-used-requires
 unfolding views.out-ExprForm denote.Hole.Carrier.out

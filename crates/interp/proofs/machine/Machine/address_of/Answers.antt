@@ -3,6 +3,8 @@ use Rattle.std.proofs.lemmas.Option.{slice_get_read}
 use Rattle.pas_program.specs.declared.variable.VarKind.TheVariants as kind
 use Rattle.pas_program.specs.Tables.{is_kind}
 use Rattle.interp.proofs.Addresses.{found_frame, link_within, linked_room}
+use Rattle.interp.proofs.Valuing.{sees_linked}
+use Rattle.control_points.specs.Actions.{top_depth}
 use Rattle.interp.proofs.machine.Machine.address_of.Goals as goal
 
 pub overflow_add-index : goal.overflow_add-index
@@ -30,4 +32,6 @@ returns-in-Var c =
     record {
       room = linked_room m.flow.now m.frames.items m.links.items m.framed m.linked c.depth_of-depth.result c.args.var c.index-in-Var.result.now c.offset_of.result c.index.result.now def f.known c.var_def-def.ensures.value (sym f.routine) (ap (is_kind kind.Var) c.in-Var.is) (c.offset_of.ensures def c.var_def-def.ensures.value)
           (slice_get_read m.links.items _ _ c.index-in-Var.result.now m.links.ok.0 (omega (arith, l, m.links.ok.0)) c.index-in-Var.ensures);
+      exact = λ s h. sees_linked m.flow.now.program m.frames.items m.links.items s.stack h.stack (top_depth s.stack) c.depth_of-depth.result c.args.var c.index-in-Var.result.now c.offset_of.result c.index.result.now def f.known c.var_def-def.ensures.value (sym f.routine) c.in-Var.is (c.offset_of.ensures def c.var_def-def.ensures.value)
+          (slice_get_read m.links.items _ _ c.index-in-Var.result.now m.links.ok.0 (omega (arith, l, m.links.ok.0)) c.index-in-Var.ensures) (c.depth_of-depth.ensures.around s h);
     }
