@@ -1,7 +1,8 @@
 -- The state of a machine in which only storage behind all activations changed, and that in which one more activation begins.
-use Rattle.std.proofs.Common.{◌≡◌, ℕ, suc, ◌+◌, ◌<◌, ◌≤◌, true, List, [], ◌∷◌, ◌++◌, length, refl, sym, ap, ◌∙◌, subst, arith, ℤ, Option, Some, None, inl, inr}
-use Rattle.std.proofs.Common.{length-append}
+use Rattle.std.proofs.Common.{◌≡◌, ℕ, zero, suc, ◌+◌, ◌<◌, ◌≤◌, true, List, [], ◌∷◌, ◌++◌, length, take, replicate, refl, sym, ap, ◌∙◌, subst, arith, ℤ, Option, Some, None, inl, inr}
+use Rattle.std.proofs.Common.{length-append, length-take}
 use Rattle.std.specs.List.{slice_get}
+use Rattle.std.specs.Prelude.{Err, Ok, OnOk, Result}
 use Rattle.pas_program.specs.declared.program.Program.{Program}
 use Rattle.pas_program.specs.declared.variable.VarDef.{VarDef}
 use Rattle.pas_program.specs.declared.variable.VarKind.TheVariants as kind
@@ -13,14 +14,15 @@ use Rattle.control_points.specs.Storage.{Place, Store}
 use Rattle.interp.specs.declared.frame.Frame.{Frame}
 use Rattle.interp.specs.Layouts.{count_of, extent_before}
 use Rattle.interp.specs.Machines.{AreFrames, end_of}
+use Rattle.interp.specs.Passed.{AreUndefined}
 use Rattle.interp.specs.Places.{Lies}
-use Rattle.interp.specs.Standing.{activation_at, IsBound, IsKept, StackIs, StoreIs}
+use Rattle.interp.specs.Standing.{activation_at, content, IsBound, IsKept, StackIs, StoreIs}
 use Rattle.interp.proofs.Around.{activation_kept, activation_latest}
 use Rattle.interp.proofs.Landing.{AreSameBelow, kept_moved}
 use Rattle.interp.proofs.LandingStores.{store_below}
-use Rattle.interp.proofs.Lists.{same_some, slice_get-front, slice_get-snoc}
+use Rattle.interp.proofs.Lists.{same_some, slice_get-front, slice_get-snoc, slice_get-take}
 use Rattle.interp.proofs.Lying.{lies_in}
-use Rattle.interp.proofs.Numbers.{link_place}
+use Rattle.interp.proofs.Numbers.{link_place, resized_same}
 use Rattle.interp.proofs.Parts.{scalar_count}
 use Rattle.std.proofs.lemmas.Option.{slice_get_within}
 
@@ -80,3 +82,33 @@ module _ (frames : List Frame) (g : Frame) where
           (kept_moved p frames (frames ++ g ∷ []) links (length frames) pushed_same (length frames) g g a a (omega arith) refl refl refl refl refl (λ y. y) k)))
     ];
   }
+
+-- ---- room for one more activation
+
+pub cut_same : {A : Type 0} (n : ℕ) (xs new : List A) → new ≡ take n xs → AreSameTo n xs new
+cut_same n xs new e i h = ap (λ ys. slice_get ys i) e ∙ slice_get-take xs n i h
+
+pub resized_to : {A : Type 0} (n m k : ℕ) (xs new : List A) (y : A) → n ≤ length xs → n ≤ m → new ≡ take m xs ++ replicate k y → AreSameTo n xs new
+resized_to n m k xs new y l r e i h = ap (λ ys. slice_get ys i) e ∙ resized_same xs m k i y (omega arith) (omega arith)
+
+pub same_twice : {A : Type 0} (n : ℕ) (xs ys zs : List A) → AreSameTo n xs ys → AreSameTo n ys zs → AreSameTo n xs zs
+same_twice n xs ys zs e f i h = f i h ∙ e i h
+
+none_in : (k a : ℕ) → content (replicate k None) a ≡ None
+none_in zero a = refl
+none_in (suc k) zero = refl
+none_in (suc k) (suc a) = none_in k a
+
+none_behind : (xs : List (Option ℤ)) (k a : ℕ) → length xs ≤ a → content (xs ++ replicate k None) a ≡ None
+none_behind [] k a h = none_in k a
+none_behind (x ∷ xs) k zero h = absurd (omega arith)
+none_behind (x ∷ xs) k (suc a) h = none_behind xs k a (omega arith)
+
+pub always_ok : {A E : Type 0} (r : Result A E) (P : Type 0) → P → OnOk r P
+always_ok (Ok x) P h = h
+always_ok (Err e) P h = tt
+
+-- what is new is undefined
+pub fresh_behind : (n m k : ℕ) (xs cut new : List (Option ℤ)) → cut ≡ take n xs → new ≡ take m cut ++ replicate k None → AreUndefined n new
+fresh_behind n m k xs cut new e f a h =
+    ap (λ ys. content ys a) f ∙ none_behind (take m cut) k a (let x = ap length e in let y = length-take n xs in let z = length-take m cut in omega arith)

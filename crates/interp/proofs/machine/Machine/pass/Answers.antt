@@ -80,6 +80,8 @@ loop-i-preserved c =
           (given_more n.flow.now.program n.frames.items c.args.routine c.loop-i.i v f.var fs n.links.items new.links.items c.in_ok-argument.argument
           (λ j u x e h. f.own j u x e (sym (ap (λ (g : Flow). slice_get g.program.vars u) k.flow) ∙ h)) f.known there
           (c.in_ok-argument.ensures.safe f.var there) c.give.ensures.links c.loop-i.invariant.linked);
+      state = ?;
+      passed = ?;
     }
 
 pub returns-clause-linked : goal.returns-clause-linked
