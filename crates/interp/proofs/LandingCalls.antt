@@ -9,14 +9,16 @@ use Rattle.pas_program.specs.declared.variable.VarKind.TheVariants as kind
 use Rattle.pas_program.specs.Tables.{is_kind}
 use Rattle.pas_program.specs.Types.{is_scalar}
 use Rattle.control_points.specs.declared.flow.Flow.{Flow}
-use Rattle.control_points.specs.States.{Activation, Stack}
+use Rattle.control_points.specs.States.{Activation, Stack, State}
 use Rattle.control_points.specs.Storage.{Place, Store}
 use Rattle.interp.specs.declared.frame.Frame.{Frame}
+use Rattle.interp.specs.declared.machine.Machine.{Machine}
 use Rattle.interp.specs.Layouts.{count_of, extent_before}
 use Rattle.interp.specs.Machines.{AreFrames, end_of}
 use Rattle.interp.specs.Passed.{AreUndefined}
 use Rattle.interp.specs.Places.{Lies}
-use Rattle.interp.specs.Standing.{activation_at, content, IsBound, IsKept, StackIs, StoreIs}
+use Rattle.interp.specs.Same.{SameActivations}
+use Rattle.interp.specs.Standing.{activation_at, content, IsBound, IsKept, StackIs, StandsFor, StoreIs}
 use Rattle.interp.proofs.Around.{activation_kept, activation_latest}
 use Rattle.interp.proofs.Landing.{AreSameBelow, kept_moved}
 use Rattle.interp.proofs.LandingStores.{store_below}
@@ -53,6 +55,18 @@ module _ (flow : Flow) (frames : List Frame) (h : AreFrames flow frames) where
   store_behind old new store same s =
       store_below flow.program frames (end_of flow.program frames).scalars old new store
       (λ q a t l k. let r = (lies_in flow frames h q a t l).room in let one = scalar_count flow.program t k in omega arith) same s
+
+-- the machine stays in its state
+pub stands_behind : (old new : Machine) (s : State) → SameActivations old new → AreSameTo (end_of old.flow.now.program old.frames.items).links old.links.items new.links.items
+    → AreSameTo (end_of old.flow.now.program old.frames.items).scalars old.scalars.items new.scalars.items → StandsFor old s → StandsFor new s
+stands_behind old new s k links scalars t = record {
+  stack = subst (λ (g : Flow). StackIs g.program new.frames.items new.links.items s.stack) (sym k.flow)
+      (subst (λ (xs : List Frame). StackIs old.flow.now.program xs new.links.items s.stack) (sym k.frames) (stack_behind old.flow.now old.frames.items old.framed old.links.items new.links.items s.stack links t.stack));
+  store = subst (λ (g : Flow). StoreIs g.program new.frames.items new.scalars.items s.store) (sym k.flow)
+      (subst (λ (xs : List Frame). StoreIs old.flow.now.program xs new.scalars.items s.store) (sym k.frames) (store_behind old.flow.now old.frames.items old.framed old.scalars.items new.scalars.items s.store scalars t.store));
+  items = t.items ∙ sym k.items;
+  output = t.output ∙ sym k.output;
+}
 
 -- ---- one more activation
 

@@ -1,25 +1,26 @@
 -- The actuals of a call, one after another: what they give by the meaning, and in the storage behind all activations.
 use Rattle.std.proofs.Common.{◌≡◌, ℕ, zero, suc, ◌+◌, ◌<◌, ◌≤◌, Bool, true, false, not, ◌&&◌, List, [], ◌∷◌, ◌++◌, length, take, drop, set, refl, sym, ap, ◌∙◌, subst, arith, ℤ, Option, Some, None, inl, inr, Ok, Err, nat_eq, nat_lt}
 use Rattle.std.specs.List.{slice_get}
-use Rattle.std.specs.Prelude.{Result}
+use Rattle.std.specs.Option.{option_map}
 use Rattle.std.proofs.Math.ListN.{length-set}
 use Rattle.std.proofs.lemmas.Bool.{true≢false, and_parts, cases_Bool, cond-true, cond-false, eq-eqb, ne_eqb, ltb-true, ltb-false}
 use Rattle.std.proofs.lemmas.Bool.Decides.{eqb_tells}
-use Rattle.std.proofs.lemmas.List.{append-nil}
+use Rattle.std.proofs.lemmas.List.{append-nil, append_assoc, drop_all}
 use Rattle.std.proofs.lemmas.Option.{none-some, slice_get_within}
 use Rattle.pas_program.specs.declared.expr.Actual.{Actual}
 use Rattle.pas_program.specs.declared.expr.Actual.TheViews.{out-Actual}
 use Rattle.pas_program.specs.declared.program.Program.{Program}
+use Rattle.pas_program.specs.declared.routine.Routine.{Routine}
 use Rattle.pas_program.specs.declared.variable.VarDef.{VarDef}
 use Rattle.pas_program.specs.declared.variable.VarKind.TheVariants as kind
 use Rattle.pas_program.specs.Checked.{tables}
 use Rattle.pas_program.specs.Scopes.{contains, is_distinct}
-use Rattle.pas_program.specs.Tables.{is_kind}
+use Rattle.pas_program.specs.Tables.{head_of, is_kind}
 use Rattle.pas_program.specs.Types.{is_scalar}
 use Rattle.control_points.proofs.ValidPlaces.{var_type_is}
 use Rattle.control_points.specs.declared.fault.Fault.{Fault}
 use Rattle.control_points.specs.declared.flow.Flow.{Flow}
-use Rattle.control_points.specs.Actions.{Change, Passing, both, no_passing, pass, pass_to}
+use Rattle.control_points.specs.Actions.{Change, Passing, both, formals_of, no_passing, pass, pass_to}
 use Rattle.control_points.specs.Evaluation.{Answer, then_with, var_type}
 use Rattle.control_points.specs.Finding.{bound_to}
 use Rattle.control_points.specs.Flows.{chart_of}
@@ -33,7 +34,7 @@ use Rattle.interp.specs.declared.frame.Frame.{Frame}
 use Rattle.interp.specs.Calls.{HasNew, IsGiven, IsGivenLink}
 use Rattle.interp.specs.Layouts.{count_of, extent_before}
 use Rattle.interp.specs.Machines.{AreFrames, end_of}
-use Rattle.interp.specs.Passed.{AreUndefined, HasPassed, IsGivenScalars, IsLinkedTo, IsPassed, IsPassedAs, IsStoredFor}
+use Rattle.interp.specs.Passed.{AreAllPassed, AreUndefined, HasPassed, IsGivenScalars, IsLinkedTo, IsPassed, IsPassedAs, IsStoredFor}
 use Rattle.interp.specs.Places.{Lies}
 use Rattle.interp.specs.Standing.{StandsFor, StoreIs, content}
 use Rattle.interp.proofs.Landing.{lies_depth, lies_moved}
@@ -42,7 +43,7 @@ use Rattle.interp.proofs.LandingStores.{pasted, pasted_before, store_copy, store
 use Rattle.interp.proofs.Laying.{slice_get-set_same, slice_get-set_other}
 use Rattle.interp.proofs.Lists.{same_some, slice_get-last, slice_get-snoc}
 use Rattle.interp.proofs.Lying.{lies_whole}
-use Rattle.interp.proofs.Passing.{contains_at, link_once, not_last}
+use Rattle.interp.proofs.Passing.{contains_at, formal_there, link_once, not_last}
 use Rattle.interp.proofs.Storage.{links_within, scalars_within}
 
 -- ---- lists
@@ -52,34 +53,21 @@ drop_at [] i x e = absurd (none-some x e)
 drop_at (y ∷ xs) zero x e = ap (λ z. z ∷ xs) (same_some y x e)
 drop_at (y ∷ xs) (suc i) x e = let f : suc (i + 1) ≡ suc i + 1 = omega arith in drop_at xs i x e ∙ ap (λ n. x ∷ drop n (y ∷ xs)) f
 
-pub drop_past : {A : Type 0} (xs : List A) (i : ℕ) → length xs ≤ i → drop i xs ≡ []
-drop_past [] zero h = refl
-drop_past [] (suc i) h = refl
-drop_past (x ∷ xs) zero h = absurd (omega arith)
-drop_past (x ∷ xs) (suc i) h = drop_past xs i (omega arith)
-
 -- numbers of which none stands twice
+twice : (n : ℕ) (ns : List ℕ) → not (contains n ns) ≡ true → contains n ns ≡ true → ⊥
+twice n ns a b = true≢false (sym a ∙ ap not b)
+
 pub distinct_once : (ns : List ℕ) → is_distinct ns ≡ true → (i j v : ℕ) → slice_get ns i ≡ Some v → slice_get ns j ≡ Some v → i ≡ j
 distinct_once [] h i j v e f = absurd (none-some v e)
 distinct_once (n ∷ ns) h zero zero v e f = refl
 distinct_once (n ∷ ns) h zero (suc j) v e f = absurd (twice n ns (and_parts (not (contains n ns)) _ h).0 (ap (λ m. contains m ns) (same_some n v e) ∙ contains_at ns j v f))
-  where
-    twice : (n : ℕ) (ns : List ℕ) → not (contains n ns) ≡ true → contains n ns ≡ true → ⊥
-    twice n ns a b = true≢false (sym a ∙ ap not b)
 distinct_once (n ∷ ns) h (suc i) zero v e f = absurd (twice n ns (and_parts (not (contains n ns)) _ h).0 (ap (λ m. contains m ns) (same_some n v f) ∙ contains_at ns i v e))
-  where
-    twice : (n : ℕ) (ns : List ℕ) → not (contains n ns) ≡ true → contains n ns ≡ true → ⊥
-    twice n ns a b = true≢false (sym a ∙ ap not b)
 distinct_once (n ∷ ns) h (suc i) (suc j) v e f = ap suc (distinct_once ns (and_parts (not (contains n ns)) _ h).1 i j v e f)
-
-append_twice : {A : Type 0} (xs ys zs : List A) → xs ++ (ys ++ zs) ≡ (xs ++ ys) ++ zs
-append_twice [] ys zs = refl
-append_twice (x ∷ xs) ys zs = ap (λ l. x ∷ l) (append_twice xs ys zs)
 
 -- ---- what is given, by the meaning
 
 both_twice : (p q r : Passing) → both p (both q r) ≡ both (both p q) r
-both_twice p q r = λ i. record { changes = append_twice p.changes q.changes r.changes i; bindings = append_twice p.bindings q.bindings r.bindings i }
+both_twice p q r = λ i. record { changes = sym (append_assoc p.changes q.changes r.changes) i; bindings = sym (append_assoc p.bindings q.bindings r.bindings) i }
 
 both_nothing : (p : Passing) → both p no_passing ≡ p
 both_nothing p = λ i. record { changes = append-nil p.changes i; bindings = append-nil p.bindings i }
@@ -246,19 +234,25 @@ module _ (flow : Flow) (frames : List Frame) (routine : ℕ) (s : State) (long :
     module _ (x : VarDef) (known : slice_get flow.program.vars v ≡ Some x) (own : x.routine ≡ routine) (all_own : (j u : ℕ) (y : VarDef) → slice_get formals j ≡ Some u → slice_get flow.program.vars u ≡ Some y → y.routine ≡ routine)
         (once : is_distinct formals ≡ true) (room : HasNew flow.program frames x.routine links scalars) (arg : Argument) (safe : IsGiven flow.program frames x arg)
         (links' : List ℕ) (scalars' : List (Option ℤ)) (into : IsGivenScalars flow.program frames v arg scalars scalars') (link : IsGivenLink flow.program frames v arg links links') where
+      -- a variable parameter before this formal
+      linked_before : (bindings : List Binding) (j u : ℕ) (y : VarDef) → j < i → slice_get formals j ≡ Some u → slice_get flow.program.vars u ≡ Some y → is_kind kind.Var y.kind ≡ true → links' ≡ links
+          → IsLinkedTo flow.program frames links' (so_far.given.bindings ++ bindings) u y
+      linked_before bindings j u y l e f k same =
+          let b = so_far.linked j u y l e f k in
+          record {
+            place = b.place;
+            address = b.address;
+            bound = bound_first u so_far.given.bindings bindings b.place b.bound;
+            link = ap (λ xs. slice_get xs ((end_of flow.program frames).links + (extent_before flow.program y.routine u).links)) same ∙ b.link;
+            lies = b.lies;
+          }
+
       -- the binding that a variable parameter gets, and its link
       linked_more : (arg : Argument) (given : Passing) → IsGiven flow.program frames x arg → IsGivenLink flow.program frames v arg links links' → IsPassed flow.program frames (length s.stack) v x.of_type given arg
           → (j u : ℕ) (y : VarDef) → j < i + 1 → slice_get formals j ≡ Some u → slice_get flow.program.vars u ≡ Some y → is_kind kind.Var y.kind ≡ true
           → IsLinkedTo flow.program frames links' (so_far.given.bindings ++ given.bindings) u y
-      linked_more (argument.Number z) given safe link d j u y l e f k = linked_before given.bindings j u y (not_last flow.program j i u v y x formals l e formal f known k safe.0) e f k (λ m. ap (λ xs. slice_get xs m) link)
-        where
-          linked_before : (bindings : List Binding) (j u : ℕ) (y : VarDef) → j < i → slice_get formals j ≡ Some u → slice_get flow.program.vars u ≡ Some y → is_kind kind.Var y.kind ≡ true → ((m : ℕ) → slice_get links' m ≡ slice_get links m) → IsLinkedTo flow.program frames links' (so_far.given.bindings ++ bindings) u y
-          linked_before bindings j u y l e f k same =
-              let b = so_far.linked j u y l e f k in
-              record { place = b.place; address = b.address; bound = bound_first u so_far.given.bindings bindings b.place b.bound; link = same _ ∙ b.link; lies = b.lies }
-      linked_more (argument.Array n m) given safe link d j u y l e f k =
-          let b = so_far.linked j u y (not_last flow.program j i u v y x formals l e formal f known k safe.0) e f k in
-          record { place = b.place; address = b.address; bound = bound_first u so_far.given.bindings given.bindings b.place b.bound; link = ap (λ xs. slice_get xs _) link ∙ b.link; lies = b.lies }
+      linked_more (argument.Number z) given safe link d j u y l e f k = linked_before given.bindings j u y (not_last flow.program j i u v y x formals l e formal f known k safe.0) e f k link
+      linked_more (argument.Array n m) given safe link d j u y l e f k = linked_before given.bindings j u y (not_last flow.program j i u v y x formals l e formal f known k safe.0) e f k link
       linked_more (argument.Variable n) given safe link d j u y l e f k = elim (eqb_tells j i) [
         | inl w ↦
             let is : u ≡ v = same_some u v (sym e ∙ ap (slice_get formals) w.1 ∙ formal) in
@@ -323,5 +317,37 @@ module _ (flow : Flow) (frames : List Frame) (routine : ℕ) (s : State) (long :
   pub all_passed : (i : ℕ) (links : List ℕ) (scalars : List (Option ℤ)) → length actuals ≤ i → (so_far : PassedSoFar flow frames routine s actuals formals i links scalars) → pass (chart_of flow) s actuals formals ≡ Ok so_far.given
   all_passed i links scalars l so_far =
       so_far.meant
-      ∙ ap (λ xs. then_with (pass (chart_of flow) s xs (drop i formals)) (λ rest. Ok (both so_far.given rest))) (drop_past actuals i l)
+      ∙ ap (λ xs. then_with (pass (chart_of flow) s xs (drop i formals)) (λ rest. Ok (both so_far.given rest))) (drop_all i actuals l)
       ∙ ap (λ (y : Passing). let z : Answer Passing = Ok y in z) (both_nothing so_far.given)
+
+  pub has_passed : (i : ℕ) (d : Routine) (links : List ℕ) (scalars : List (Option ℤ)) → slice_get flow.program.routines routine ≡ Some d → formals ≡ d.formals → length formals ≤ i
+      → (so_far : PassedSoFar flow frames routine s actuals formals i links scalars) → HasPassed flow frames routine links scalars s so_far.given
+  has_passed i d links scalars e h l so_far = record {
+    stored = so_far.stored;
+    linked = λ v x known own var.
+        let w = formal_there flow.program routine d v x e known own var in
+        let at : slice_get formals w.0 ≡ Some v = ap (λ ns. slice_get ns w.0) h ∙ w.1 in
+        let b = slice_get_within formals w.0 v at in
+        so_far.linked w.0 v x (omega arith) at known var;
+  }
+
+-- ---- the answer
+
+pub all_given : (answer : Answer Passing) (P : Passing → Type 0) (given : Passing) → answer ≡ Ok given → P given → AreAllPassed answer P (Ok tt)
+all_given answer P given e h = subst (λ (x : Answer Passing). AreAllPassed x P (Ok tt)) (sym e) h
+
+pub all_fault : (answer : Answer Passing) (P : Passing → Type 0) (f : Fault) → answer ≡ Err f → AreAllPassed answer P (Err f)
+all_fault answer P f e = subst (λ (x : Answer Passing). AreAllPassed x P (Err f)) (sym e) refl
+
+pub formals_are : (flow : Flow) (s : State) (routine : ℕ) (d : Routine) (formals : List ℕ) → slice_get flow.program.routines routine ≡ Some d → formals ≡ d.formals → formals_of (chart_of flow) s ((tables flow.program).head_at routine) ≡ formals
+formals_are flow s routine d formals e h = ap (λ o. formals_of (chart_of flow) s (option_map head_of o)) e ∙ sym h
+
+pub formals_distinct : (p : Program) (routine : ℕ) (d : Routine) (formals : List ℕ) → slice_get p.routines routine ≡ Some d → formals ≡ d.formals → is_distinct formals ≡ true
+formals_distinct p routine d formals e h = ap is_distinct h ∙ (p.in_scope.lists routine d e).formals_once
+
+-- ---- the same where flow and activations were kept
+
+pub so_far_kept : (f g : Flow) (xs ys : List Frame) (routine : ℕ) (s : State) (actuals : List Actual) (formals : List ℕ) (i : ℕ) (links : List ℕ) (scalars : List (Option ℤ)) → g ≡ f → ys ≡ xs
+    → PassedSoFar f xs routine s actuals formals i links scalars → PassedSoFar g ys routine s actuals formals i links scalars
+so_far_kept f g xs ys routine s actuals formals i links scalars e h l =
+    subst (λ (g : Flow). PassedSoFar g ys routine s actuals formals i links scalars) (sym e) (subst (λ (ys : List Frame). PassedSoFar f ys routine s actuals formals i links scalars) (sym h) l)

@@ -13,6 +13,7 @@ pub mod Landed
 pub mod Landing
 pub mod LandingCalls
 pub mod LandingEffects
+pub mod LandingMade
 pub mod LandingPassing
 pub mod LandingStores
 pub mod Laying

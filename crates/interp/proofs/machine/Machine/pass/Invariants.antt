@@ -15,5 +15,5 @@ invariant-loop-i l =
       room : HasNew p l.self.frames.items l.routine l.self.links.items l.self.scalars.items;
       linked : LinkedSoFar p l.self.frames.items l.formals l.i l.self.links.items;
       state : InState l.initial.self (λ s. StandsFor l.self s);
-      passed : InState l.initial.self (λ s. PassedSoFar l.initial.self.flow.now l.initial.self.frames.items l.routine s l.actuals.now l.formals l.i l.self.links.items l.self.scalars.items);
+      passed : InState l.initial.self (λ s. PassedSoFar l.initial.self.flow.now l.initial.self.frames.items l.routine s l.actuals l.formals l.i l.self.links.items l.self.scalars.items);
     }
