@@ -1,14 +1,13 @@
 -- Places and activations where the later activations end, or one more begins.
-use Rattle.std.proofs.Common.{◌≡◌, ℕ, zero, suc, ◌+◌, ◌-◌, ◌<◌, ◌≤◌, Bool, true, false, ◌&&◌, List, [], ◌∷◌, ◌++◌, length, take, refl, sym, ap, ◌∙◌, subst, arith, ℤ, Option, Some, None, inl, inr, nat_eq}
+use Rattle.std.proofs.Common.{◌≡◌, ℕ, suc, ◌+◌, ◌<◌, ◌≤◌, List, [], ◌∷◌, ◌++◌, length, take, refl, sym, ap, ◌∙◌, subst, arith, Some, inl, inr, nat_eq, set, get_or}
 use Rattle.std.specs.List.{slice_get}
-use Rattle.std.proofs.lemmas.Bool.{cases_Bool, cond-true, cond-false, eqb-false, eqb-true, eq-eqb}
+use Rattle.std.proofs.lemmas.Bool.{cases_Bool, cond-true, cond-false, eqb-false, eqb-true}
 use Rattle.std.proofs.Common.{length-append}
 use Rattle.std.proofs.lemmas.Bool.Decides.{eqb_tells}
 use Rattle.std.proofs.lemmas.List.{length-take-le}
-use Rattle.std.proofs.lemmas.Option.{none-some, slice_get_within}
+use Rattle.std.proofs.lemmas.Option.{get_or_from_slice_get, none-some, slice_get_within}
 use Rattle.pas_program.specs.declared.program.Program.{Program}
 use Rattle.pas_program.specs.declared.variable.VarDef.{VarDef}
-use Rattle.control_points.specs.declared.flow.Flow.{Flow}
 use Rattle.control_points.specs.States as States
 use Rattle.control_points.specs.States.{Activation, Stack}
 use Rattle.control_points.specs.Finding.{bound_to}
@@ -21,8 +20,8 @@ use Rattle.interp.specs.Places.{Lies, Part, part_of}
 use Rattle.interp.specs.Standing.{activation_at, IsBound, IsKept, StackIs}
 use Rattle.interp.proofs.Around.{activation_kept, activation_latest}
 use Rattle.interp.proofs.Frames.{in_prefix}
-use Rattle.interp.proofs.Landed.{moved_to}
-use Rattle.interp.proofs.Lists.{same_some, slice_get-front, slice_get-last, slice_get-snoc, slice_get-take, some_at}
+use Rattle.interp.proofs.Landed.{moved_to, set_last}
+use Rattle.interp.proofs.Lists.{same_some, slice_get-front, slice_get-last, slice_get-snoc, slice_get-take}
 
 -- ---- places
 
@@ -180,8 +179,16 @@ module _ (frames : List Frame) (n p : ℕ) (g : Frame) (e : slice_get frames n �
           | inr w ↦
               let a = s.each n g e in
               let at : d ≡ n = w.0 ∙ landed_long in
-              let b : Activation = record (a.0) { point = p } in
-              (b, ap (activation_at (down_to stack n p)) at ∙ down_at stack n p a.0 a.1,
-              kept_moved q frames _ links (suc n) landed_same d g x a.0 b (omega arith) (ap (λ (y : Frame). y.base) w.1) (ap (λ (y : Frame). y.routine) w.1) (ap (λ (y : Frame). y.call) w.1) (ap (λ (y : Frame). y.parent) w.1) refl (λ y. ap (λ (y : Frame). y.point) (sym w.1)) (subst (λ d. IsKept q frames links d g a.0) (sym at) a.2))
+              let b : Activation = record (a.0) { point = p } in (
+                b,
+                ap (activation_at (down_to stack n p)) at ∙ down_at stack n p a.0 a.1,
+                kept_moved q frames _ links (suc n) landed_same d g x a.0 b (omega arith) (ap (λ (y : Frame). y.base) w.1) (ap (λ (y : Frame). y.routine) w.1) (ap (λ (y : Frame). y.call) w.1) (ap (λ (y : Frame). y.parent) w.1) refl (λ y. ap (λ (y : Frame). y.point) (sym w.1)) (subst (λ d. IsKept q frames links d g a.0) (sym at) a.2),
+              )
         ];
       }
+
+-- the list of activations that results, where the one at the depth n is read, moved and written back
+pub landed_items : (frames cut : List Frame) (n p : ℕ) (g now : Frame) → slice_get frames n ≡ Some g → cut ≡ take (n + 1) frames → now ≡ get_or cut n now → set cut n (moved_to now p) ≡ take n frames ++ moved_to g p ∷ []
+landed_items frames cut n p g now e c r =
+    let read : now ≡ g = r ∙ get_or_from_slice_get cut n g now (ap (λ xs. slice_get xs n) c ∙ slice_get-take frames (n + 1) n (omega arith) ∙ e) in
+    ap (λ (x : Frame). set cut n (moved_to x p)) read ∙ ap (λ xs. set xs n (moved_to g p)) c ∙ set_last frames n (moved_to g p) (slice_get_within frames n g e)

@@ -1,32 +1,25 @@
 -- The state of a machine in which only storage behind all activations changed, and that in which one more activation begins.
-use Rattle.std.proofs.Common.{◌≡◌, ℕ, zero, suc, ◌+◌, ◌<◌, ◌≤◌, true, List, [], ◌∷◌, ◌++◌, length, take, replicate, refl, sym, ap, ◌∙◌, subst, arith, ℤ, Option, Some, None, inl, inr}
+use Rattle.std.proofs.Common.{◌≡◌, ℕ, zero, suc, ◌<◌, ◌≤◌, List, [], ◌∷◌, ◌++◌, length, take, replicate, refl, sym, ap, ◌∙◌, subst, arith, ℤ, Option, None, inl, inr}
 use Rattle.std.proofs.Common.{length-append, length-take}
 use Rattle.std.specs.List.{slice_get}
 use Rattle.std.specs.Prelude.{Err, Ok, OnOk, Result}
 use Rattle.pas_program.specs.declared.program.Program.{Program}
-use Rattle.pas_program.specs.declared.variable.VarDef.{VarDef}
-use Rattle.pas_program.specs.declared.variable.VarKind.TheVariants as kind
-use Rattle.pas_program.specs.Tables.{is_kind}
-use Rattle.pas_program.specs.Types.{is_scalar}
 use Rattle.control_points.specs.declared.flow.Flow.{Flow}
 use Rattle.control_points.specs.States.{Activation, Stack, State}
-use Rattle.control_points.specs.Storage.{Place, Store}
+use Rattle.control_points.specs.Storage.{Store}
 use Rattle.interp.specs.declared.frame.Frame.{Frame}
 use Rattle.interp.specs.declared.machine.Machine.{Machine}
-use Rattle.interp.specs.Layouts.{count_of, extent_before}
 use Rattle.interp.specs.Machines.{AreFrames, end_of}
 use Rattle.interp.specs.Passed.{AreUndefined}
-use Rattle.interp.specs.Places.{Lies}
 use Rattle.interp.specs.Same.{SameActivations}
-use Rattle.interp.specs.Standing.{activation_at, content, IsBound, IsKept, StackIs, StandsFor, StoreIs}
+use Rattle.interp.specs.Standing.{content, IsKept, StackIs, StandsFor, StoreIs}
 use Rattle.interp.proofs.Around.{activation_kept, activation_latest}
 use Rattle.interp.proofs.Landing.{AreSameBelow, kept_moved}
 use Rattle.interp.proofs.LandingStores.{store_below}
-use Rattle.interp.proofs.Lists.{same_some, slice_get-front, slice_get-snoc, slice_get-take}
+use Rattle.interp.proofs.Lists.{slice_get-front, slice_get-snoc, slice_get-take}
 use Rattle.interp.proofs.Lying.{lies_in}
 use Rattle.interp.proofs.Numbers.{link_place, resized_same}
 use Rattle.interp.proofs.Parts.{scalar_count}
-use Rattle.std.proofs.lemmas.Option.{slice_get_within}
 
 -- ---- storage behind all activations
 
@@ -39,16 +32,19 @@ module _ (flow : Flow) (frames : List Frame) (h : AreFrames flow frames) where
     height = s.height;
     each = λ d g e.
         let w = s.each d g e in
-        let k = w.2 in
-        (w.0, w.1, record {
-          known = k.known;
-          call = k.call;
-          parent = k.parent;
-          point = k.point;
-          bound = λ v x f o i.
-              let b = k.bound v x f o i in
-              record { place = b.place; address = b.address; bound = b.bound; below = b.below; link = same _ (link_place flow frames h d v g x e f o i) ∙ b.link; lies = b.lies };
-        });
+        let k = w.2 in (
+          w.0,
+          w.1,
+          record {
+            known = k.known;
+            call = k.call;
+            parent = k.parent;
+            point = k.point;
+            bound = λ v x f o i.
+                let b = k.bound v x f o i in
+                record { place = b.place; address = b.address; bound = b.bound; below = b.below; link = same _ (link_place flow frames h d v g x e f o i) ∙ b.link; lies = b.lies };
+          },
+        );
   }
 
   pub store_behind : (old new : List (Option ℤ)) (store : Store) → AreSameTo (end_of flow.program frames).scalars old new → StoreIs flow.program frames old store → StoreIs flow.program frames new store
@@ -89,11 +85,13 @@ module _ (frames : List Frame) (g : Frame) where
           let l = w.0 in
           let n = s.height in
           (b.0, activation_kept a stack d (omega arith) ∙ b.1, kept_moved p frames (frames ++ g ∷ []) links (length frames) pushed_same d x x b.0 b.0 (omega arith) refl refl refl refl refl (λ y. y) b.2)
-      | inr w ↦
-          (a, activation_latest a stack d (w.0 ∙ sym s.height),
-          subst (λ d. IsKept p (frames ++ g ∷ []) links d x a) (sym w.0)
-          (subst (λ x. IsKept p (frames ++ g ∷ []) links (length frames) x a) (sym w.1)
-          (kept_moved p frames (frames ++ g ∷ []) links (length frames) pushed_same (length frames) g g a a (omega arith) refl refl refl refl refl (λ y. y) k)))
+      | inr w ↦ (
+        a,
+        activation_latest a stack d (w.0 ∙ sym s.height),
+        subst (λ d. IsKept p (frames ++ g ∷ []) links d x a) (sym w.0)
+            (subst (λ x. IsKept p (frames ++ g ∷ []) links (length frames) x a) (sym w.1)
+            (kept_moved p frames (frames ++ g ∷ []) links (length frames) pushed_same (length frames) g g a a (omega arith) refl refl refl refl refl (λ y. y) k)),
+      )
     ];
   }
 

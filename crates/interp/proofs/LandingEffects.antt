@@ -1,8 +1,7 @@
 -- The state of a machine after an effect.
-use Rattle.std.proofs.Common.{◌≡◌, ℕ, suc, ◌+◌, ◌<◌, ◌≤◌, true, List, [], ◌∷◌, ◌++◌, length, take, set, refl, sym, ap, ◌∙◌, subst, arith, ℤ, Option, Some, None}
+use Rattle.std.proofs.Common.{◌≡◌, ℕ, suc, ◌+◌, ◌<◌, ◌≤◌, true, List, [], ◌∷◌, ◌++◌, length, take, set, refl, subst, arith, ℤ, Option, Some}
 use Rattle.std.specs.List.{slice_get}
 use Rattle.std.proofs.Math.ListN.{length-set}
-use Rattle.pas_program.specs.declared.program.Program.{Program}
 use Rattle.pas_program.specs.Types.{is_scalar}
 use Rattle.control_points.specs.declared.flow.Flow.{Flow}
 use Rattle.control_points.specs.Actions as meaning
@@ -16,7 +15,7 @@ use Rattle.interp.specs.declared.frame.Frame.{Frame}
 use Rattle.interp.specs.Deeds.{changed}
 use Rattle.interp.specs.Layouts.{count_of}
 use Rattle.interp.specs.Machines.{AreFrames, AreScalars, end_of, routine_of}
-use Rattle.interp.specs.Meant.{AreCopied, IsChangeOf, IsScalarAt}
+use Rattle.interp.specs.Meant.{IsChangeOf, IsScalarAt}
 use Rattle.interp.specs.Places.{Lies}
 use Rattle.interp.specs.Standing.{StoreIs}
 use Rattle.interp.proofs.Landed.{moved_to, landed_frames}

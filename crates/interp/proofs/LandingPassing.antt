@@ -1,8 +1,7 @@
 -- The actuals of a call, one after another: what they give by the meaning, and in the storage behind all activations.
-use Rattle.std.proofs.Common.{◌≡◌, ℕ, zero, suc, ◌+◌, ◌<◌, ◌≤◌, Bool, true, false, not, ◌&&◌, List, [], ◌∷◌, ◌++◌, length, take, drop, set, refl, sym, ap, ◌∙◌, subst, arith, ℤ, Option, Some, None, inl, inr, Ok, Err, nat_eq, nat_lt}
+use Rattle.std.proofs.Common.{◌≡◌, ℕ, zero, suc, ◌+◌, ◌<◌, ◌≤◌, true, false, not, List, [], ◌∷◌, ◌++◌, length, drop, refl, sym, ap, ◌∙◌, subst, arith, ℤ, Option, Some, None, inl, inr, Ok, Err, nat_eq, nat_lt}
 use Rattle.std.specs.List.{slice_get}
 use Rattle.std.specs.Option.{option_map}
-use Rattle.std.proofs.Math.ListN.{length-set}
 use Rattle.std.proofs.lemmas.Bool.{true≢false, and_parts, cases_Bool, cond-true, cond-false, eq-eqb, ne_eqb, ltb-true, ltb-false}
 use Rattle.std.proofs.lemmas.Bool.Decides.{eqb_tells}
 use Rattle.std.proofs.lemmas.List.{append-nil, append_assoc, drop_all}
@@ -16,7 +15,6 @@ use Rattle.pas_program.specs.declared.variable.VarKind.TheVariants as kind
 use Rattle.pas_program.specs.Checked.{tables}
 use Rattle.pas_program.specs.Scopes.{contains, is_distinct}
 use Rattle.pas_program.specs.Tables.{head_of, is_kind}
-use Rattle.pas_program.specs.Types.{is_scalar}
 use Rattle.control_points.proofs.ValidPlaces.{var_type_is}
 use Rattle.control_points.specs.declared.fault.Fault.{Fault}
 use Rattle.control_points.specs.declared.flow.Flow.{Flow}
@@ -36,10 +34,10 @@ use Rattle.interp.specs.Layouts.{count_of, extent_before}
 use Rattle.interp.specs.Machines.{AreFrames, end_of}
 use Rattle.interp.specs.Passed.{AreAllPassed, AreUndefined, HasPassed, IsGivenScalars, IsLinkedTo, IsPassed, IsPassedAs, IsStoredFor}
 use Rattle.interp.specs.Places.{Lies}
-use Rattle.interp.specs.Standing.{StandsFor, StoreIs, content}
+use Rattle.interp.specs.Standing.{StoreIs}
 use Rattle.interp.proofs.Landing.{lies_depth, lies_moved}
-use Rattle.interp.proofs.LandingCalls.{AreSameTo, pushed_back, pushed_height, pushed_same}
-use Rattle.interp.proofs.LandingStores.{pasted, pasted_before, store_copy, store_set}
+use Rattle.interp.proofs.LandingCalls.{AreSameTo, pushed_back, pushed_same}
+use Rattle.interp.proofs.LandingStores.{pasted_before, store_copy, store_set}
 use Rattle.interp.proofs.Laying.{slice_get-set_same, slice_get-set_other}
 use Rattle.interp.proofs.Lists.{same_some, slice_get-last, slice_get-snoc}
 use Rattle.interp.proofs.Lying.{lies_whole}

@@ -1,14 +1,12 @@
 -- The store that the scalars keep: where activations end, after a write, and after a copy.
-use Rattle.std.proofs.Common.{◌≡◌, ℕ, zero, suc, ◌+◌, ◌*◌, ◌<◌, ◌≤◌, Bool, true, false, ◌&&◌, cond, List, [], ◌∷◌, ◌++◌, length, take, drop, set, refl, sym, ap, ◌∙◌, subst, arith, ℤ, Option, Some, None, inl, inr, nat_eq, nat_lt, int_eq, unwrap_or}
-use Rattle.std.proofs.Common.{◌-◌, length-take, length-drop}
+use Rattle.std.proofs.Common.{◌≡◌, ℕ, zero, suc, ◌+◌, ◌*◌, ◌<◌, ◌≤◌, Bool, true, false, ◌&&◌, List, [], ◌∷◌, ◌++◌, length, take, drop, set, refl, sym, ap, ◌∙◌, subst, arith, ℤ, Option, Some, None, inl, inr, nat_eq, nat_lt, int_eq, unwrap_or}
+use Rattle.std.proofs.Common.{◌-◌, length-drop}
 use Rattle.std.specs.List.{slice_get}
 use Rattle.std.proofs.lemmas.Bool.{true≢false, cases_Bool, cond-true, cond-false, eq-eqb, ltb-true, ltb-false, lt-ltb}
 use Rattle.std.proofs.lemmas.Bool.Decides.{eqb_tells, Decides-int_eq}
 use Rattle.std.proofs.lemmas.List.{append-nil, length-take-le}
 use Rattle.std.proofs.lemmas.Option.{none-some}
 use Rattle.pas_program.specs.declared.program.Program.{Program}
-use Rattle.pas_program.specs.declared.type_def.TypeDef.{TypeDef}
-use Rattle.pas_program.specs.declared.type_def.TypeDef.TheVariants.{Scalar, Array}
 use Rattle.pas_program.specs.declared.variable.VarDef.{VarDef}
 use Rattle.pas_program.specs.Types.{is_scalar}
 use Rattle.control_points.proofs.ValidStores.{place_same, within_is}

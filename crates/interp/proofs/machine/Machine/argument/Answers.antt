@@ -16,8 +16,8 @@ returns-in_ok-assigned-in-Value-clause-safe c =
     let p = c.args.self.now.flow.now.program in
     let t = tables p in
     λ x e.
-          let w = passed_value t c.args.actual.now _ c.in-Value.e x c.in-Value.is refl (sym (ap (holds_of (is_passed_to t (passed t c.args.actual.now))) e) ∙ c.requires.fits) in (
-            value_not_var x.kind w.0,
-            scalar_count p x.of_type (host_scalar (hosted t c.in-Value.e).boolean (slice_get p.types x.of_type) w.1),
-            number_cast c.in_ok-assigned-in-Value.field-0 c.in_ok-assigned-in-Value.ensures.number,
-          )
+    let w = passed_value t c.args.actual.now _ c.in-Value.e x c.in-Value.is refl (sym (ap (holds_of (is_passed_to t (passed t c.args.actual.now))) e) ∙ c.requires.fits) in (
+      value_not_var x.kind w.0,
+      scalar_count p x.of_type (host_scalar (hosted t c.in-Value.e).boolean (slice_get p.types x.of_type) w.1),
+      number_cast c.in_ok-assigned-in-Value.field-0 c.in_ok-assigned-in-Value.ensures.number,
+    )

@@ -132,8 +132,7 @@ returns-in-Ok-push-clause-exact c = λ s t.
     let base : end_of p fs ≡ c.end-base.result = ap (λ (f : Flow). end_of f.program fs) flow ∙ ap (end_of m.flow.now.program) frames ∙ sym c.end-base.ensures in
     let g : Frame = new_frame c.args.routine c.args.edge c.parent_of-parent.result c.args.point c.end-base.result in
     let framed = called_at o.flow.now fs o.framed c.args.edge c.args.routine c.args.point c.args.actuals.now c.parent_of-parent.result c.end-base.result q target parent base in
-    let a : Activation = record { frame = frame_of_call (chart_of m.flow.now) s c.args.edge c.args.routine ((chart_of m.flow.now).tables.head_at c.args.routine) given.bindings; point = c.args.point } in
-    (
+    let a : Activation = record { frame = frame_of_call (chart_of m.flow.now) s c.args.edge c.args.routine ((chart_of m.flow.now).tables.head_at c.args.routine) given.bindings; point = c.args.point } in (
       effect_of_call (chart_of m.flow.now) s c.args.edge c.args.routine given,
       called_with (chart_of m.flow.now) s c.args.edge c.args.routine c.args.actuals.now given (meant_by m.flow.now n.flow.now s c.args.routine c.args.actuals.now (Ok given) k.flow w.1),
       record {

@@ -1,4 +1,4 @@
-use Rattle.std.proofs.Common.{refl, ◌+◌, ap, arith, ◌∙◌, sym, subst, length}
+use Rattle.std.proofs.Common.{refl, ◌+◌, ap, arith, ◌∙◌, subst, length}
 use Rattle.std.proofs.Common.{length-take}
 use Rattle.interp.specs.declared.frame.Extent.{Extent}
 use Rattle.interp.specs.Machines.{AreLinks, end_of}
