@@ -26,7 +26,7 @@ around-preserved c =
     record {
       way = subst (OnWay (tables m.flow.now.program) m.frames.items c.args.routine) (sym e) p.way;
       same = λ s h. c.around.invariant.same s h
-          ∙ parent_around m.flow.now.program m.frames.items m.links.items s.stack h.stack c.around.depth c.args.routine c.in-Some.parent w.frame w.known (λ i. c.if-frame-routine.false (ap (λ (g : Frame). g.routine) same ∙ i)) (p.is ∙ ap Some (sym e)) (subst (λ n. n < c.around.depth) (sym e) p.below);
+      ∙ parent_around m.flow.now.program m.frames.items m.links.items s.stack h.stack c.around.depth c.args.routine c.in-Some.parent w.frame w.known (λ i. c.if-frame-routine.false (ap (λ (g : Frame). g.routine) same ∙ i)) (p.is ∙ ap Some (sym e)) (subst (λ n. n < c.around.depth) (sym e) p.below);
     }
 
 pub unreachable-requires : goal.unreachable-requires
