@@ -13,6 +13,12 @@ pub mod Frames
 pub mod Giving
 pub mod InputLemmas
 pub mod Landed
+pub mod Landing
+pub mod LandingCalls
+pub mod LandingEffects
+pub mod LandingMade
+pub mod LandingPassing
+pub mod LandingStores
 pub mod Laying
 pub mod Lists
 pub mod Lying

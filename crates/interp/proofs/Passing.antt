@@ -49,7 +49,7 @@ passed_at t (x ∷ actuals) (f ∷ formals) (suc i) a h e =
 
 -- ---- formals
 
-contains_at : (ns : List ℕ) (j v : ℕ) → slice_get ns j ≡ Some v → contains v ns ≡ true
+pub contains_at : (ns : List ℕ) (j v : ℕ) → slice_get ns j ≡ Some v → contains v ns ≡ true
 contains_at [] j v e = absurd (none-some v e)
 contains_at (n ∷ ns) zero v e = ap (λ b. b || contains v ns) (eq-eqb v n (sym (same_some n v e)))
 contains_at (n ∷ ns) (suc j) v e = or_true (nat_eq v n) (contains v ns) (contains_at ns j v e)
@@ -80,7 +80,7 @@ formal_there p r d v x e g o k =
     formal_kind kind.Bound h = absurd (true≢false (sym h))
 
 -- two variable parameters with one link are one
-link_once : (p : Program) (r u v : ℕ) (x y : VarDef) → slice_get p.vars u ≡ Some x → slice_get p.vars v ≡ Some y → x.routine ≡ r → y.routine ≡ r → is_kind kind.Var x.kind ≡ true → is_kind kind.Var y.kind ≡ true
+pub link_once : (p : Program) (r u v : ℕ) (x y : VarDef) → slice_get p.vars u ≡ Some x → slice_get p.vars v ≡ Some y → x.routine ≡ r → y.routine ≡ r → is_kind kind.Var x.kind ≡ true → is_kind kind.Var y.kind ≡ true
     → (extent_before p r u).links ≡ (extent_before p r v).links → u ≡ v
 link_once p r u v x y e f o q k l s =
     let one : links_of x ≡ 1 = ap {B = ℕ} (λ b. cond b 1 0) k in
@@ -97,7 +97,7 @@ LinkedSoFar p frames formals n links =
     (j v a : ℕ) (x : VarDef) → j < n → slice_get formals j ≡ Some v → slice_get p.vars v ≡ Some x → is_kind kind.Var x.kind ≡ true
     → slice_get links ((end_of p frames).links + (extent_before p x.routine v).links) ≡ Some a → a + count_of p x.of_type ≤ (end_of p frames).scalars
 
-not_last : (p : Program) (j i v f : ℕ) (x y : VarDef) (formals : List ℕ) → j < i + 1 → slice_get formals j ≡ Some v → slice_get formals i ≡ Some f → slice_get p.vars v ≡ Some x → slice_get p.vars f ≡ Some y
+pub not_last : (p : Program) (j i v f : ℕ) (x y : VarDef) (formals : List ℕ) → j < i + 1 → slice_get formals j ≡ Some v → slice_get formals i ≡ Some f → slice_get p.vars v ≡ Some x → slice_get p.vars f ≡ Some y
     → is_kind kind.Var x.kind ≡ true → is_kind kind.Var y.kind ≡ false → j < i
 not_last p j i v f x y formals l e known g var k n =
     let d : j ≡ i → ⊥ = λ c.

@@ -4,6 +4,7 @@ pub mod InputItems
 pub mod Layouts
 pub mod Machines
 pub mod Meant
+pub mod Passed
 pub mod Places
 pub mod RunText
 pub mod Same

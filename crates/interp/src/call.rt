@@ -1,17 +1,20 @@
 //! Calls (ISO 7185, 6.6.3, 6.7.3 and 6.8.2.3).
 ghost use Rattle.std.specs.Prelude.{◌≡◌, ◌<◌, length, map, slice_get, IfOk, OnOk, Some, true};
 ghost use Rattle.std.specs.Option.{option_and_then};
+ghost use Rattle.pas_program.specs.declared.expr.Actual.TheViews.{out-Actual};
 ghost use Rattle.pas_program.specs.Checked.{numbers_in, scope_in, tables};
 ghost use Rattle.pas_program.specs.Each.{all_true, each_actual};
 ghost use Rattle.pas_program.specs.Tables.{Head, holds_of, is_callable};
 ghost use Rattle.pas_program.specs.Typed.{is_passed_to, passed};
 ghost use Rattle.control_points.specs.Actions as meaning;
+ghost use Rattle.control_points.specs.Evaluation.{var_type};
 ghost use Rattle.control_points.specs.Finding.{around};
 ghost use Rattle.control_points.specs.Flows.{chart_of};
 ghost use Rattle.interp.specs.Calls.{AreLinked, HasNew, HasNewFor, IsArgument, IsCallOf, IsGivenLink, IsParent, are_passed};
 ghost use Rattle.interp.specs.Deeds.{target_of};
 ghost use Rattle.interp.specs.Machines.{end_of, top_routine};
 ghost use Rattle.interp.specs.Meant.{InState, IsCalled};
+ghost use Rattle.interp.specs.Passed.{AreAllPassed, AreUndefined, HasPassed, IsGivenScalars, IsPassedAs};
 ghost use Rattle.interp.specs.Same.{SameActivations};
 ghost use Rattle.interp.specs.Standing.{StandsFor};
 
@@ -98,6 +101,7 @@ impl<'a> Machine<'a> {
         requires base { base ≡ end_of self.old.flow.now.program self.old.frames.items }
         ensures kept { SameActivations self.old self.new }
         ensures room { OnOk result (HasNew self.old.flow.now.program self.old.frames.items routine self.new.links.items self.new.scalars.items) }
+        ensures fresh { OnOk result (AreUndefined base.scalars self.new.scalars.items) }
         ensures state { InState self.old (λ s. StandsFor self.new s) }
     {
         let extent = self.extent_of(routine as usize);
@@ -111,12 +115,15 @@ impl<'a> Machine<'a> {
         requires in_range { routine < length self.old.flow.now.program.routines }
         requires base { base ≡ end_of self.old.flow.now.program self.old.frames.items }
         requires room { HasNew self.old.flow.now.program self.old.frames.items routine self.old.links.items self.old.scalars.items }
+        requires fresh { AreUndefined base.scalars self.old.scalars.items }
         requires numbers { all_true (map (each_actual (numbers_in self.old.flow.now.program)) actuals.now) ≡ true }
         requires scopes { all_true (map (each_actual (scope_in self.old.flow.now.program (top_routine self.old.frames.items))) actuals.now) ≡ true }
         requires fits { holds_of (are_passed (tables self.old.flow.now.program) actuals.now) ((tables self.old.flow.now.program).head_at routine) ≡ true }
         ensures kept { SameActivations self.old self.new }
         ensures room { OnOk result (HasNew self.old.flow.now.program self.old.frames.items routine self.new.links.items self.new.scalars.items) }
         ensures linked { OnOk result (AreLinked self.old.flow.now.program self.old.frames.items routine self.new.links.items) }
+        ensures state { InState self.old (λ s. StandsFor self.new s) }
+        ensures exact { InState self.old (λ s. AreAllPassed (meaning.pass (chart_of self.old.flow.now) s actuals.now (meaning.formals_of (chart_of self.old.flow.now) s ((tables self.old.flow.now.program).head_at routine))) (HasPassed self.old.flow.now self.old.frames.items routine self.new.links.items self.new.scalars.items s) result) }
     {
         let flow = self.flow;
         let formals = flow.program.routine(routine).formals.as_slice();
@@ -136,6 +143,7 @@ impl<'a> Machine<'a> {
         ensures kept { SameActivations self.old self.new }
         ensures scalars { length self.new.scalars.items ≡ length self.old.scalars.items }
         ensures links { IsGivenLink self.old.flow.now.program self.old.frames.items formal argument self.old.links.items self.new.links.items }
+        ensures given { IsGivenScalars self.old.flow.now.program self.old.frames.items formal argument self.old.scalars.items self.new.scalars.items }
     {
         let offset = self.offset_of(formal);
         let to = base.scalars + offset.scalars;
@@ -160,6 +168,7 @@ impl<'a> Machine<'a> {
         requires scopes { each_actual (scope_in self.now.flow.now.program (top_routine self.now.frames.items)) actual.now ≡ true }
         requires fits { holds_of (is_passed_to (tables self.now.flow.now.program) (passed (tables self.now.flow.now.program) actual.now)) (slice_get self.now.flow.now.program.vars formal) ≡ true }
         ensures safe { IfOk result (IsArgument self.now.flow.now.program self.now.frames.items formal) }
+        ensures exact { InState self.now (λ s. IsPassedAs self.now.flow.now.program self.now.frames.items (length s.stack) formal (var_type (tables self.now.flow.now.program) formal) (meaning.pass_to (chart_of self.now.flow.now) s formal (out-Actual actual.now)) result) }
     {
         let of_type = self.flow.program.var_def(formal).of_type;
         match actual {

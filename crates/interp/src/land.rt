@@ -12,7 +12,7 @@ ghost use Rattle.interp.specs.Standing.{StandsFor};
 use crate::call::Refusal;
 use crate::decide::{Change, Deed, Effect};
 use crate::machine::{Machine, Progress, error};
-use crate::write::write;
+use crate::write::write_any;
 use std::alloc::AllocError;
 
 impl<'a> Machine<'a> {
@@ -20,7 +20,7 @@ impl<'a> Machine<'a> {
     pub(crate) fn follow(&mut self, edge: u32, deed: Deed<'a>) -> Result<Progress, AllocError>
         requires { IsDeedOf self.old.flow.now self.old.frames.items edge deed }
         ensures flow { self.new.flow.now ≡ self.old.flow.now }
-        ensures exact { InState self.old (λ s. (outcome : Outcome) → IsDone self.old s edge outcome deed → IsAfter (after_edge self.old s edge outcome) s self.new result) }
+        ensures exact { InState self.old (λ s. (outcome : Outcome) → IsDone self.old s edge outcome deed.entry → IsAfter (after_edge self.old s edge outcome) s self.new result) }
     {
         let flow = self.flow;
         let target = flow.edges()[edge as usize].to as usize;
@@ -46,12 +46,10 @@ impl<'a> Machine<'a> {
         requires effect { IsEffect self.old.flow.now.program self.old.frames.items effect }
         requires point { routine_at self.old.flow.now.points point ≡ routine_of self.old.frames.items effect.depth }
         ensures flow { self.new.flow.now ≡ self.old.flow.now }
-        ensures landed { InState self.old (λ s. (defined : meaning.Effect) → IsEffectOf self.old s defined effect → OnOk result (StandsFor self.new (after s point defined))) }
+        ensures landed { InState self.old (λ s. (defined : meaning.Effect) → IsEffectOf self.old s defined effect.entry → OnOk result (StandsFor self.new (after s point defined))) }
         ensures kept { InState self.old (λ s. OnErr result (StandsFor self.new s)) }
     {
-        if let Some(output) = effect.output {
-            write(&mut self.output, output)?;
-        }
+        write_any(&mut self.output, effect.output)?;
         change(&mut self.scalars, effect.change);
         self.frames.truncate(effect.depth + 1);
         self.frames[effect.depth].point = point;

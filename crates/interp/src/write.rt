@@ -22,13 +22,28 @@ pub(crate) struct Output<'a> {
     pub width: Option<u16>,
 }
 
+/// Writes at the end what there is to be written.
+///
+/// # Errors
+///
+/// Where memory is lacking; then nothing is written.
+pub(crate) fn write_any(to: &mut Vec<u8>, output: Option<Output<'_>>) -> Result<(), AllocError>
+    ensures written { OnOk result (to.new.items ≡ to.old.items ++ bytes_of output.entry) }
+    ensures kept { OnErr result (to.new.items ≡ to.old.items) }
+{
+    match output {
+        Some(output) => write(to, output),
+        None => Ok(()),
+    }
+}
+
 /// Writes it at the end.
 ///
 /// # Errors
 ///
 /// Where memory is lacking; then nothing is written.
-pub(crate) fn write(to: &mut Vec<u8>, output: Output<'_>) -> Result<(), AllocError>
-    ensures written { OnOk result (to.new.items ≡ to.old.items ++ bytes_of (Some output)) }
+fn write(to: &mut Vec<u8>, output: Output<'_>) -> Result<(), AllocError>
+    ensures written { OnOk result (to.new.items ≡ to.old.items ++ bytes_of (Some output.entry)) }
     ensures kept { OnErr result (to.new.items ≡ to.old.items) }
 {
     match output.text {

@@ -10,16 +10,14 @@ use Rattle.interp.proofs.Parts.{scalar_count}
 use Rattle.interp.proofs.Targets.{host_scalar}
 use Rattle.interp.proofs.machine.Machine.argument.Goals as goal
 
-pub returns-in_ok-assigned-in-Value : goal.returns-in_ok-assigned-in-Value
+pub returns-in_ok-assigned-in-Value-clause-safe : goal.returns-in_ok-assigned-in-Value-clause-safe
 unfolding views.out-Actual denote.Hole.Carrier.out
-returns-in_ok-assigned-in-Value c =
+returns-in_ok-assigned-in-Value-clause-safe c =
     let p = c.args.self.now.flow.now.program in
     let t = tables p in
-    record {
-      safe = λ x e.
-          let w = passed_value t c.args.actual.now _ c.in-Value.e x c.in-Value.is refl (sym (ap (holds_of (is_passed_to t (passed t c.args.actual.now))) e) ∙ c.requires.fits) in (
-            value_not_var x.kind w.0,
-            scalar_count p x.of_type (host_scalar (hosted t c.in-Value.e).boolean (slice_get p.types x.of_type) w.1),
-            number_cast c.in_ok-assigned-in-Value.field-0 c.in_ok-assigned-in-Value.ensures.number,
-          );
-    }
+    λ x e.
+    let w = passed_value t c.args.actual.now _ c.in-Value.e x c.in-Value.is refl (sym (ap (holds_of (is_passed_to t (passed t c.args.actual.now))) e) ∙ c.requires.fits) in (
+      value_not_var x.kind w.0,
+      scalar_count p x.of_type (host_scalar (hosted t c.in-Value.e).boolean (slice_get p.types x.of_type) w.1),
+      number_cast c.in_ok-assigned-in-Value.field-0 c.in_ok-assigned-in-Value.ensures.number,
+    )

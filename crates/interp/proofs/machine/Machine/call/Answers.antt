@@ -1,12 +1,21 @@
-use Rattle.std.proofs.Common.{◌≡◌, refl, ap, ◌∙◌, sym, subst, List, [], ◌∷◌, ◌++◌, Some}
+use Rattle.std.proofs.Common.{◌≡◌, Ok, Err, length, refl, ap, ◌∙◌, sym, subst, List, [], ◌∷◌, ◌++◌, Some}
 use Rattle.std.specs.Prelude.{OnOk, is_ok}
+use Rattle.control_points.specs.declared.fault.Fault.{Fault}
 use Rattle.control_points.specs.declared.flow.Flow.{Flow}
+use Rattle.control_points.specs.Actions.{frame_of_call}
+use Rattle.control_points.specs.Flows.{chart_of}
+use Rattle.control_points.specs.States.{Activation}
+use Rattle.control_points.specs.Steps.{change_all}
+use Rattle.control_points.specs.Storage.{keep_below}
 use Rattle.interp.specs.declared.frame.Extent.{Extent}
 use Rattle.interp.specs.declared.frame.Frame.{Frame}
 use Rattle.interp.specs.Calls.{AreLinked, HasNew}
 use Rattle.interp.specs.Deeds.{target_of}
 use Rattle.interp.specs.Machines.{AreFrames, AreLinks, AreScalars, end_of}
 use Rattle.interp.proofs.Called.{call_facts, called, called_links, called_scalars, moved_call, moved_facts, moved_linked, moved_parent, new_frame}
+use Rattle.interp.specs.Passed.{HasPassed}
+use Rattle.interp.specs.Standing.{StackIs, StoreIs}
+use Rattle.interp.proofs.LandingMade.{called_at, called_fault, called_with, effect_of_call, made_stack, meant_by, passed_kept, passing_done, passing_fault}
 use Rattle.interp.proofs.Lists.{one_of}
 use Rattle.interp.proofs.Passing.{room_kept}
 use Rattle.interp.proofs.machine.Machine.call.Goals as goal
@@ -80,3 +89,58 @@ invariant_of-self c =
       stored = one_of (λ xs. AreScalars p xs o.scalars.items) (is_ok c.push.result) (made c.end-base.result) fs c.push.new.self.items c.push.ensures.items
           (subst (λ x. AreScalars p (made x) o.scalars.items) base (called_scalars o.flow.now fs c.args.edge c.args.routine c.args.point c.parent_of-parent.result o.links.items o.scalars.items room o.stored)) o.stored;
     }
+
+pub returns-in-Err-pass-clause-exact : goal.returns-in-Err-pass-clause-exact
+returns-in-Err-pass-clause-exact c = λ s t.
+    let m = c.args.self.now in
+    let n = c.make_room.new.self in
+    let here = c.make_room.ensures.state s t in
+    let f : Fault = c.in-Err-pass.fault in
+    let meant = passing_fault _ (HasPassed n.flow.now n.frames.items c.args.routine c.pass.new.self.links.items c.pass.new.self.scalars.items s) f (c.in-Err-pass.ensures.exact s here) in
+    (called_fault (chart_of m.flow.now) s c.args.edge c.args.routine c.args.actuals.now f (meant_by m.flow.now n.flow.now s c.args.routine c.args.actuals.now (Err f) c.make_room.ensures.kept.flow meant), c.pass.ensures.state s here)
+
+pub returns-in-Err-push-clause-exact : goal.returns-in-Err-push-clause-exact
+returns-in-Err-push-clause-exact c = λ s t.
+    let o = c.pass.new.self in
+    let u = c.pass.ensures.state s (c.make_room.ensures.state s t) in
+    record {
+      stack = subst (λ (xs : List Frame). StackIs o.flow.now.program xs o.links.items s.stack) (sym c.in-Err-push.ensures.items) u.stack;
+      store = subst (λ (xs : List Frame). StoreIs o.flow.now.program xs o.scalars.items s.store) (sym c.in-Err-push.ensures.items) u.store;
+      items = u.items;
+      output = u.output;
+    }
+
+pub returns-in-Ok-push-clause-exact : goal.returns-in-Ok-push-clause-exact
+returns-in-Ok-push-clause-exact c = λ s t.
+    let m = c.args.self.now in
+    let n = c.make_room.new.self in
+    let o = c.pass.new.self in
+    let p = o.flow.now.program in
+    let fs = o.frames.items in
+    let k = c.make_room.ensures.kept in
+    let l = c.pass.ensures.kept in
+    let flow = l.flow ∙ k.flow in
+    let frames = l.frames ∙ k.frames in
+    let here = c.make_room.ensures.state s t in
+    let u = c.pass.ensures.state s here in
+    let w = passing_done _ (HasPassed n.flow.now n.frames.items c.args.routine o.links.items o.scalars.items s) (c.in-Ok-pass.ensures.exact s here) in
+    let given = w.0 in
+    let passed = passed_kept n.flow.now o.flow.now n.frames.items fs c.args.routine o.links.items o.scalars.items s given l.flow l.frames w.2 in
+    let q = moved_call m.flow.now o.flow.now m.frames.items fs c.args.edge c.args.routine c.args.actuals.now flow frames c.requires.call in
+    let target : target_of o.flow.now.edges c.args.edge ≡ Some c.args.point = ap (λ (f : Flow). target_of f.edges c.args.edge) flow ∙ c.requires.target in
+    let parent = moved_parent m.flow.now o.flow.now m.frames.items fs c.args.routine c.parent_of-parent.result flow frames c.parent_of-parent.ensures.parent in
+    let base : end_of p fs ≡ c.end-base.result = ap (λ (f : Flow). end_of f.program fs) flow ∙ ap (end_of m.flow.now.program) frames ∙ sym c.end-base.ensures in
+    let g : Frame = new_frame c.args.routine c.args.edge c.parent_of-parent.result c.args.point c.end-base.result in
+    let framed = called_at o.flow.now fs o.framed c.args.edge c.args.routine c.args.point c.args.actuals.now c.parent_of-parent.result c.end-base.result q target parent base in
+    let a : Activation = record { frame = frame_of_call (chart_of m.flow.now) s c.args.edge c.args.routine ((chart_of m.flow.now).tables.head_at c.args.routine) given.bindings; point = c.args.point } in (
+      effect_of_call (chart_of m.flow.now) s c.args.edge c.args.routine given,
+      called_with (chart_of m.flow.now) s c.args.edge c.args.routine c.args.actuals.now given (meant_by m.flow.now n.flow.now s c.args.routine c.args.actuals.now (Ok given) k.flow w.1),
+      record {
+        stack = subst (λ (xs : List Frame). StackIs p xs o.links.items (a ∷ s.stack)) (sym c.in-Ok-push.ensures.items)
+            (made_stack o.flow.now fs g o.links.items o.scalars.items s given a u.stack passed (sym base) refl refl (c.parent_of-parent.ensures.exact s t) refl refl);
+        store = subst (λ (xs : List Frame). StoreIs p xs o.scalars.items (change_all given.changes (keep_below (length s.stack) s.store))) (sym c.in-Ok-push.ensures.items)
+            (passed.stored g (sym base) refl framed);
+        items = u.items;
+        output = u.output;
+      },
+    )
