@@ -54,7 +54,7 @@ done_with m s k h changes items e d c i o = (
 -- ---- write
 
 -- two parts, of which the second needs the first's value
-pub then_both : (m : Machine) (s : State) (k : ℕ) (r : Answer ℤ) (g : ℤ → Answer ℤ) (x : ℤ) (f : ℤ → Outcome) (result : Result (Option Deed) Fault) → then_with r g ≡ Ok x → IsDecided m s k (f x) result → IsDecided m s k (then_with r (λ z. then_with (g z) f)) result
+then_both : (m : Machine) (s : State) (k : ℕ) (r : Answer ℤ) (g : ℤ → Answer ℤ) (x : ℤ) (f : ℤ → Outcome) (result : Result (Option Deed) Fault) → then_with r g ≡ Ok x → IsDecided m s k (f x) result → IsDecided m s k (then_with r (λ z. then_with (g z) f)) result
 then_both m s k (Ok z) g x f result e h = then_value m s k (g z) x f result e h
 then_both m s k (Err d) g x f result e h = absurd (cc)
 

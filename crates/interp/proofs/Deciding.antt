@@ -1,9 +1,7 @@
 -- What an action comes to in a state that the machine is in: of its parts, of which each gives a value or the same error.
-use Rattle.std.proofs.Common.{◌≡◌, ℕ, ◌-◌, ◌<◌, ◌≤◌, Bool, true, false, ◌||◌, cond, List, [], ◌∷◌, length, refl, sym, ap, ◌∙◌, subst, arith, rules, ℤ, pos, Option, Some, None, Result, Ok, Err}
+use Rattle.std.proofs.Common.{◌≡◌, ℕ, ◌-◌, ◌≤◌, Bool, true, false, ◌||◌, cond, List, [], ◌∷◌, refl, sym, ap, ◌∙◌, subst, arith, rules, ℤ, pos, Option, Result, Ok, Err}
 use Rattle.std.specs.List.{list_any, slice_get}
-use Rattle.std.specs.Option.{option_and_then, option_map, unwrap_or}
 use Rattle.std.specs.Ordering.{int_eq}
-use Rattle.std.proofs.lemmas.Bool.{true≢false}
 use Rattle.std.proofs.lemmas.Int.{ints}
 use Rattle.std.proofs.lemmas.Cmp.{int_eq_equiv}
 use Rattle.std.proofs.lemmas.Option.{slice_get_within}
@@ -11,7 +9,6 @@ use Rattle.std.specs.Int.{w32}
 use Rattle.px_base.specs.declared.kind.Kind.{Kind}
 use Rattle.arithmetic.specs.Numbers.{IsNumber, truth}
 use Rattle.pas_program.specs.declared.program.Program.{Program}
-use Rattle.pas_program.specs.declared.variable.VarDef.{VarDef}
 use Rattle.pas_program.specs.Checked.{tables}
 use Rattle.pas_program.specs.Typed.{type_of_var}
 use Rattle.pas_program.specs.Types.{is_scalar}
@@ -27,8 +24,8 @@ use Rattle.interp.specs.Machines.{top_of}
 use Rattle.interp.specs.Meant.{IsDecided, IsScalarAt, IsSpot, view_in}
 use Rattle.interp.specs.Places.{Lies}
 use Rattle.interp.specs.Standing.{StandsFor, content}
-use Rattle.interp.proofs.Addresses.{var_type_is}
 use Rattle.interp.proofs.Casts.{number_kept}
+use Rattle.interp.proofs.ValuingExprs.{scalar_type}
 use mir.Val.{bool_byte, of_z, to_z}
 
 -- the depth of the latest activation
@@ -43,38 +40,21 @@ lies_below p frames q a t l = let w = slice_get_within frames q.depth l.frame l.
 pub scalar_at : (p : Program) (frames : List Frame) (q : Place) (a t : ℕ) → Lies p frames q a t → is_scalar (slice_get p.types t) ≡ true → IsScalarAt p frames (top_of frames) q a
 scalar_at p frames q a t l h = record { of_type = t; lies = l; scalar = h; below = lies_below p frames q a t l }
 
--- the type of a scalar variable
-pub scalar_type : (p : Program) (v : ℕ) → is_scalar (type_of_var (tables p) v) ≡ true → is_scalar (slice_get p.types (var_type (tables p) v)) ≡ true
-scalar_type p v h = by_var (slice_get p.vars v) refl
-  where
-    by_var : (o : Option VarDef) → slice_get p.vars v ≡ o → is_scalar (slice_get p.types (var_type (tables p) v)) ≡ true
-    by_var None e = absurd (true≢false (sym h ∙ ap (λ o. is_scalar (option_and_then (λ (d : VarDef). slice_get p.types d.of_type) o)) e))
-    by_var (Some x) e =
-        ap (λ t. is_scalar (slice_get p.types t)) (var_type_is p v x e)
-        ∙ sym (ap (λ o. is_scalar (option_and_then (λ (d : VarDef). slice_get p.types d.of_type) o)) e) ∙ h
-
 -- what a scalar that is used gives
-pub read_is : (m : Machine) (s : State) → StandsFor m s → (q : Place) (a t at : ℕ) → Lies m.flow.now.program m.frames.items q a t → is_scalar (slice_get m.flow.now.program.types t) ≡ true → defined at (s.store q) ≡ defined at (content m.scalars.items a)
+read_is : (m : Machine) (s : State) → StandsFor m s → (q : Place) (a t at : ℕ) → Lies m.flow.now.program m.frames.items q a t → is_scalar (slice_get m.flow.now.program.types t) ≡ true → defined at (s.store q) ≡ defined at (content m.scalars.items a)
 read_is m s h q a t at l k = ap (defined at) (h.store.held q a t l k)
 
 -- ---- parts of an action
 
--- a part that gives a value, and one that meets an error
+-- a part that gives a value
 pub then_value : {A : Type 0} (m : Machine) (s : State) (k : ℕ) (r : Answer A) (x : A) (f : A → Outcome) (result : Result (Option Deed) Fault) → r ≡ Ok x → IsDecided m s k (f x) result → IsDecided m s k (then_with r f) result
 then_value m s k r x f result e h = subst (λ r. IsDecided m s k (then_with r f) result) (sym e) h
-
-pub then_error : {A : Type 0} (m : Machine) (s : State) (k : ℕ) (r : Answer A) (e : Fault) (f : A → Outcome) → r ≡ Err e → IsDecided m s k (then_with r f) (Err e)
-then_error m s k r e f h = ap (λ r. then_with r f) h
 
 -- the same of a variable
 pub then_spot : (m : Machine) (s : State) (k t at a : ℕ) (r : Answer Spot) (f : Spot → Outcome) (result : Result (Option Deed) Fault) → IsSpot m.flow.now.program m.frames.items t at r (Ok a)
     → ((spot : Spot) → Lies m.flow.now.program m.frames.items spot.place a t → spot.at ≡ at → IsDecided m s k (f spot) result) → IsDecided m s k (then_with r f) result
 then_spot m s k t at a (Ok spot) f result h g = g spot h.0 h.1
 then_spot m s k t at a (Err e) f result h g = absurd h
-
-pub then_no_spot : (m : Machine) (s : State) (k t at : ℕ) (e : Fault) (r : Answer Spot) (f : Spot → Outcome) → IsSpot m.flow.now.program m.frames.items t at r (Err e) → IsDecided m s k (then_with r f) (Err e)
-then_no_spot m s k t at e (Ok spot) f h = absurd h
-then_no_spot m s k t at e (Err g) f h = ap Err h
 
 -- a variable whose value is used
 pub var_read : (m : Machine) (s : State) → StandsFor m s → (v a at : ℕ) → is_scalar (type_of_var (tables m.flow.now.program) v) ≡ true
@@ -114,13 +94,6 @@ is_among (x ∷ xs) z = ap (λ b. b || list_any (λ y. int_eq y z) xs) (int_eq_e
 pub checked_at : (p : Program) (t u : ℕ) (b : Bool) (k : Kind) (at : ℕ) (x z : ℤ) → IsNumber x → t ≡ u → b ≡ is_value_of (slice_get p.types u) (to_z w32 (of_z w32 x)) → ◌≡◌ {A = Answer ℤ} (Ok z) (checked b k at (to_z w32 (of_z w32 x)))
     → checked (is_value_of (slice_get p.types t) x) k at x ≡ Ok z
 checked_at p t u b k at x z n e f h =
-    ap (λ t. checked (is_value_of (slice_get p.types t) x) k at x) e
-    ∙ ap (λ x. checked (is_value_of (slice_get p.types u) x) k at x) (number_kept x n)
-    ∙ ap (λ b. checked b k at (to_z w32 (of_z w32 x))) (sym f) ∙ sym h
-
-pub checked_error : (p : Program) (t u : ℕ) (b : Bool) (k : Kind) (at : ℕ) (x : ℤ) (e : Fault) → IsNumber x → t ≡ u → b ≡ is_value_of (slice_get p.types u) (to_z w32 (of_z w32 x)) → ◌≡◌ {A = Answer ℤ} (Err e) (checked b k at (to_z w32 (of_z w32 x)))
-    → checked (is_value_of (slice_get p.types t) x) k at x ≡ Err e
-checked_error p t u b k at x d n e f h =
     ap (λ t. checked (is_value_of (slice_get p.types t) x) k at x) e
     ∙ ap (λ x. checked (is_value_of (slice_get p.types u) x) k at x) (number_kept x n)
     ∙ ap (λ b. checked b k at (to_z w32 (of_z w32 x))) (sym f) ∙ sym h

@@ -1,5 +1,5 @@
 -- The latest activation of a state, its call and its result, as the frames have them.
-use Rattle.std.proofs.Common.{◌≡◌, ℕ, suc, ◌-◌, ◌<◌, Bool, true, List, [], ◌∷◌, length, map, refl, sym, ap, ◌∙◌, subst, arith, ℤ, Option, Some, None, Ok, Err, nat_eq}
+use Rattle.std.proofs.Common.{◌≡◌, ℕ, suc, true, List, [], ◌∷◌, length, map, refl, sym, ap, ◌∙◌, arith, ℤ, Option, Some, None, Ok, Err, nat_eq}
 use Rattle.std.specs.List.{slice_get}
 use Rattle.std.specs.Option.{option_and_then, option_map, unwrap_or}
 use Rattle.std.proofs.lemmas.Bool.{and_parts, eqb-true}
@@ -13,7 +13,6 @@ use Rattle.pas_program.specs.Each.{true_if_some}
 use Rattle.pas_program.specs.Tables.{Head, head_of, holds_of}
 use Rattle.pas_program.specs.Typed.{function_fits, passed, type_of_var}
 use Rattle.pas_program.specs.Types.{is_scalar}
-use Rattle.control_points.specs.declared.edge.Act.TheVariants as act
 use Rattle.control_points.specs.declared.edge.Edge.{Edge}
 use Rattle.control_points.specs.declared.fault.Fault.{Fault}
 use Rattle.control_points.specs.declared.flow.Flow.{Flow}

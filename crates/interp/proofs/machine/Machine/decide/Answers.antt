@@ -1,4 +1,4 @@
-use Rattle.std.proofs.Common.{◌≡◌, ◌+◌, rules, ap, ◌∙◌, sym, subst, get_or, drop, None, Ok, Err}
+use Rattle.std.proofs.Common.{◌+◌, rules, ap, ◌∙◌, sym, subst, get_or, drop, Ok}
 use Rattle.std.specs.Prelude.{IfSome}
 use Rattle.std.specs.List.{slice_get}
 use Rattle.std.proofs.lemmas.Option.{slice_get_within, slice_get-get_or}

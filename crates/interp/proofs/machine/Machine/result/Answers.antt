@@ -1,15 +1,16 @@
-use Rattle.std.proofs.Common.{◌≡◌, ◌-◌, ap, ◌∙◌, sym, Some, Ok}
+use Rattle.std.proofs.Common.{◌≡◌, ◌-◌, ap, ◌∙◌, sym, Ok}
 use Rattle.std.specs.Option.{unwrap_or}
 use Rattle.control_points.specs.Actions.{result_of, result_value, top_depth}
 use Rattle.control_points.specs.Flows.{chart_of}
-use Rattle.control_points.specs.Storage.{Place, whole}
+use Rattle.control_points.specs.Storage.{whole}
 use Rattle.interp.specs.Standing.{content}
 use Rattle.control_points.specs.Evaluation.{var_type}
 use Rattle.pas_program.specs.Checked.{tables}
 use Rattle.interp.proofs.Casts.{number_kept}
-use Rattle.interp.proofs.Deciding.{scalar_type, top_is_top}
+use Rattle.interp.proofs.Deciding.{top_is_top}
 use Rattle.interp.proofs.Returning.{latest_result, result_known, result_scalar, result_unknown}
 use Rattle.interp.proofs.Targets.{room_place}
+use Rattle.interp.proofs.ValuingExprs.{scalar_type}
 use Rattle.interp.proofs.machine.Machine.result.Goals as goal
 
 pub used-requires : goal.used-requires

@@ -14,9 +14,10 @@ use Rattle.interp.specs.Machines.{top_of}
 use Rattle.interp.proofs.Asking.{made_by}
 use Rattle.interp.specs.Meant.{IsDecided, IsScalarAt}
 use Rattle.interp.proofs.Casts.{number_cast, number_kept}
-use Rattle.interp.proofs.Deciding.{if_true, scalar_type, then_value}
+use Rattle.interp.proofs.Deciding.{if_true, then_value}
 use Rattle.interp.proofs.Returning.{latest_call, slot_result, slot_scalar}
 use Rattle.interp.proofs.Targets.{slot_facts, room_place}
+use Rattle.interp.proofs.ValuingExprs.{scalar_type}
 use Rattle.interp.proofs.machine.Machine.return_from.Goals as goal
 
 pub slot_of-requires : goal.slot_of-requires

@@ -1,4 +1,4 @@
-use Rattle.std.proofs.Common.{◌≡◌, ◌++◌, List, ℕ, true, ap, ◌∙◌, sym, Option, None, Some, Ok}
+use Rattle.std.proofs.Common.{◌≡◌, ◌++◌, List, ℕ, true, ap, ◌∙◌, sym, Option, Some, Ok}
 use Rattle.control_points.specs.Actions.{written_value}
 use Rattle.control_points.specs.Evaluation.{Answer}
 use Rattle.control_points.specs.Flows.{chart_of}
