@@ -46,9 +46,12 @@ read_is m s h q a t at l k = ap (defined at) (h.store.held q a t l k)
 
 -- ---- parts of an action
 
--- a part that gives a value
+-- a part that gives a value, and one that meets an error
 pub then_value : {A : Type 0} (m : Machine) (s : State) (k : ℕ) (r : Answer A) (x : A) (f : A → Outcome) (result : Result (Option Deed) Fault) → r ≡ Ok x → IsDecided m s k (f x) result → IsDecided m s k (then_with r f) result
 then_value m s k r x f result e h = subst (λ r. IsDecided m s k (then_with r f) result) (sym e) h
+
+pub then_error : {A : Type 0} (m : Machine) (s : State) (k : ℕ) (r : Answer A) (e : Fault) (f : A → Outcome) (result : Result (Option Deed) Fault) → result ≡ Err e → r ≡ Err e → IsDecided m s k (then_with r f) result
+then_error m s k r e f result is h = subst (IsDecided m s k (then_with r f)) (sym is) (ap (λ r. then_with r f) h)
 
 -- the same of a variable
 pub then_spot : (m : Machine) (s : State) (k t at a : ℕ) (r : Answer Spot) (f : Spot → Outcome) (result : Result (Option Deed) Fault) → IsSpot m.flow.now.program m.frames.items t at r (Ok a)
@@ -91,9 +94,10 @@ is_among (x ∷ xs) z = ap (λ b. b || list_any (λ y. int_eq y z) xs) (int_eq_e
 
 -- ---- numbers that are checked
 
-pub checked_at : (p : Program) (t u : ℕ) (b : Bool) (k : Kind) (at : ℕ) (x z : ℤ) → IsNumber x → t ≡ u → b ≡ is_value_of (slice_get p.types u) (to_z w32 (of_z w32 x)) → ◌≡◌ {A = Answer ℤ} (Ok z) (checked b k at (to_z w32 (of_z w32 x)))
-    → checked (is_value_of (slice_get p.types t) x) k at x ≡ Ok z
-checked_at p t u b k at x z n e f h =
+-- what a check of a number answers, by its bits and a type that is the same
+pub checked_at : (p : Program) (t u : ℕ) (b : Bool) (k : Kind) (at : ℕ) (x : ℤ) (answer : Answer ℤ) → IsNumber x → t ≡ u → b ≡ is_value_of (slice_get p.types u) (to_z w32 (of_z w32 x)) → answer ≡ checked b k at (to_z w32 (of_z w32 x))
+    → checked (is_value_of (slice_get p.types t) x) k at x ≡ answer
+checked_at p t u b k at x answer n e f h =
     ap (λ t. checked (is_value_of (slice_get p.types t) x) k at x) e
     ∙ ap (λ x. checked (is_value_of (slice_get p.types u) x) k at x) (number_kept x n)
     ∙ ap (λ b. checked b k at (to_z w32 (of_z w32 x))) (sym f) ∙ sym h

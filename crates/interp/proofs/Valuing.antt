@@ -1,5 +1,5 @@
 -- What the latest activation sees: the activations around it, and where the variables of each lie.
-use Rattle.std.proofs.Common.{◌≡◌, ℕ, ◌<◌, ◌+◌, ◌-◌, true, false, List, refl, sym, ap, ◌∙◌, subst, Option, Some}
+use Rattle.std.proofs.Common.{◌≡◌, ℕ, ◌<◌, ◌+◌, ◌-◌, false, List, refl, sym, ap, ◌∙◌, subst, Some}
 use Rattle.std.specs.List.{slice_get}
 use Rattle.std.specs.Option.{option_and_then, unwrap_or}
 use Rattle.std.proofs.lemmas.Bool.{true≢false}
@@ -11,10 +11,10 @@ use Rattle.pas_program.specs.Checked.{tables}
 use Rattle.pas_program.specs.Tables.{Tables, is_kind}
 use Rattle.control_points.specs.Actions.{top_depth}
 use Rattle.control_points.specs.Evaluation.{var_type}
-use Rattle.control_points.specs.Finding.{around, bound_to, frame_at, own_place, place_of}
+use Rattle.control_points.specs.Finding.{around, bound_to, own_place, place_of}
 use Rattle.control_points.specs.States as states
 use Rattle.control_points.specs.States.{Stack}
-use Rattle.control_points.specs.Storage.{Place, whole}
+use Rattle.control_points.specs.Storage.{whole}
 use Rattle.interp.specs.declared.frame.Extent.{Extent}
 use Rattle.interp.specs.declared.frame.Frame.{Frame}
 use Rattle.interp.specs.Layouts.{extent_before}

@@ -1,5 +1,5 @@
 -- What is read at a variable's place is what the state holds there.
-use Rattle.std.proofs.Common.{◌≡◌, ℕ, true, List, refl, sym, ap, ◌∙◌, subst, ℤ, rules, Option, Some, None, Ok, Err}
+use Rattle.std.proofs.Common.{◌≡◌, ℕ, true, List, sym, ap, ◌∙◌, ℤ, rules, Option, Some, None, Ok, Err}
 use Rattle.std.specs.Int.{w32}
 use Rattle.std.specs.List.{slice_get}
 use Rattle.std.specs.Option.{option_and_then, option_map, unwrap_or}
@@ -8,7 +8,7 @@ use Rattle.std.proofs.lemmas.Int.{ints, to_z-of_z}
 use Rattle.arithmetic.specs.Numbers.{IsNumber}
 use Rattle.pas_program.specs.declared.expr.Access.{Access}
 use Rattle.pas_program.specs.declared.expr.Actual.{Actual}
-use Rattle.pas_program.specs.declared.expr.Actual.TheFolds.{fold-Access, fold-Actual, fold-Expr, fold-ExprForm, fold_out-Expr, fold_out-ExprForm, fold-roll-ExprForm, map-ExprForm}
+use Rattle.pas_program.specs.declared.expr.Actual.TheFolds.{fold-Actual, fold-ExprForm, fold_out-Expr, fold_out-ExprForm, fold-roll-ExprForm, map-ExprForm}
 use Rattle.pas_program.specs.declared.expr.Actual.TheOpen.{ExprForm-F}
 use Rattle.pas_program.specs.declared.expr.Actual.TheViews.{out-Expr, out-ExprForm, roll-ExprForm}
 use Rattle.pas_program.specs.declared.expr.Expr.{Expr}

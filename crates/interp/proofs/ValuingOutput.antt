@@ -1,5 +1,5 @@
 -- A step writes behind what was written before it.
-use Rattle.std.proofs.Common.{◌≡◌, ℕ, Bool, true, false, cond, List, [], ◌∷◌, ◌++◌, length, take, refl, sym, ap, ◌∙◌, subst, ℤ, Option, Some, None, Result, Ok, Err, append-nil}
+use Rattle.std.proofs.Common.{◌≡◌, ℕ, Bool, true, false, cond, List, [], ◌∷◌, ◌++◌, length, take, refl, sym, ap, ◌∙◌, subst, ℤ, Option, Some, None, Ok, Err, append-nil}
 use Rattle.std.specs.List.{slice_get}
 use Rattle.pas_program.specs.declared.expr.Expr.{Expr}
 use Rattle.control_points.specs.declared.edge.Act.{Act}
@@ -12,7 +12,7 @@ use Rattle.control_points.specs.Evaluation.{Answer, Spot, then_with}
 use Rattle.control_points.specs.Input.{Taken}
 use Rattle.control_points.specs.Output.{Written, line_feed}
 use Rattle.control_points.specs.States.{State}
-use Rattle.control_points.specs.Steps.{Progress, edge_effect, first_done, halts, is_halted, moves, next, or_else, point_of, progress, selector_of}
+use Rattle.control_points.specs.Steps.{edge_effect, first_done, halts, is_halted, moves, next, or_else, point_of, progress, selector_of}
 
 -- the output begins with what was written
 abbrev pub Begins : List ℕ → List ℕ → Type 0

@@ -1,5 +1,5 @@
 -- Subscripts, one after another: the part of a variable to which those before a place lead, and how the others lead on from it.
-use Rattle.std.proofs.Common.{◌≡◌, ℕ, ◌<◌, ◌+◌, ◌*◌, Bool, true, false, cond, List, [], ◌∷◌, ◌++◌, length, map, drop, get_or, refl, sym, ap, ◌∙◌, subst, arith, ℤ, Option, Some, Result, Ok, Err, append-nil, append_assoc}
+use Rattle.std.proofs.Common.{◌≡◌, ℕ, ◌+◌, ◌*◌, Bool, true, false, cond, List, [], ◌∷◌, ◌++◌, map, refl, sym, ap, ◌∙◌, subst, arith, ℤ, Option, Some, Ok, Err, append-nil, append_assoc}
 use Rattle.std.specs.List.{slice_get}
 use Rattle.px_base.specs.declared.kind.Kind.TheVariants.{IndexOutOfRange}
 use Rattle.pas_program.specs.declared.expr.Actual.TheFolds.{fold_out-Expr}
@@ -9,7 +9,6 @@ use Rattle.pas_program.specs.declared.program.Program.{Program}
 use Rattle.pas_program.specs.declared.type_def.TypeDef.{TypeDef}
 use Rattle.pas_program.specs.declared.type_def.TypeDef.TheVariants.{Array}
 use Rattle.pas_program.specs.Checked.{tables}
-use Rattle.pas_program.specs.Tables.{Tables}
 use Rattle.control_points.specs.declared.fault.Fault.{Fault}
 use Rattle.control_points.specs.Evaluation.{Answer, Spot, Valued, View, access_step, checked, element_type, expr_step, fault, form_step, index_type, is_value_of, subscript_values, then_with, value}
 use Rattle.control_points.specs.Storage.{Place, part}
@@ -19,7 +18,6 @@ use Rattle.interp.specs.Meant.{IsPart, valued}
 use Rattle.interp.specs.Places.{Lies, Part, further, ordinal, place_in}
 use Rattle.interp.proofs.Lying.{lies_part}
 use Rattle.interp.proofs.Parts.{into_part}
-use Rattle.interp.proofs.Subscripting.{rest_at}
 
 -- ---- answers
 

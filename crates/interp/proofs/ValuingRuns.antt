@@ -1,5 +1,5 @@
 -- A machine in the states of a run, one after another.
-use Rattle.std.proofs.Common.{◌≡◌, ℕ, suc, ◌+◌, ◌≤◌, List, refl, sym, ap, ◌∙◌, subst, arith, Option, Some, Ok}
+use Rattle.std.proofs.Common.{◌≡◌, ℕ, suc, ◌+◌, ◌≤◌, List, refl, sym, ap, ◌∙◌, subst, arith, Some, Ok}
 use Rattle.control_points.specs.declared.flow.Flow.{Flow}
 use Rattle.control_points.specs.declared.item.Item.{Item}
 use Rattle.control_points.specs.Chart.{Chart}

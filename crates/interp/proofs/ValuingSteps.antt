@@ -11,7 +11,6 @@ use Rattle.control_points.specs.declared.edge.Edge.{Edge}
 use Rattle.control_points.specs.declared.fault.Fault.{Fault}
 use Rattle.control_points.specs.Chart.{Chart, leaving}
 use Rattle.control_points.specs.Evaluation.{Answer}
-use Rattle.control_points.specs.States as states
 use Rattle.control_points.specs.States.{Activation, Stack, State}
 use Rattle.control_points.specs.Steps as steps
 use Rattle.control_points.specs.Steps.{arm_place, first_done, is_halted, next, point_of, selector_of, selector_place}
@@ -21,7 +20,7 @@ use Rattle.interp.specs.declared.machine.Machine.{Machine}
 use Rattle.interp.specs.declared.machine.Progress.{Progress}
 use Rattle.interp.specs.declared.machine.Progress.TheVariants as progress
 use Rattle.interp.specs.Machines.{top_of, top_point}
-use Rattle.interp.specs.Meant.{IsAfter, IsIn, IsStep}
+use Rattle.interp.specs.Meant.{IsAfter, IsStep}
 use Rattle.interp.specs.Standing.{IsKept, StackIs, StandsFor, StoreIs, activation_at, content}
 use Rattle.interp.proofs.Around.{activation_latest}
 use Rattle.interp.proofs.Lists.{same_some, some_at}

@@ -1,15 +1,13 @@
 -- What the answers of a machine stand for in the state that it is in.
-use Rattle.std.specs.Prelude.{◌≡◌, ℕ, ◌≤◌, ◌++◌, true, false, List, [], ◌∷◌, length, codes, ℤ, Option, Some, None, Result, Ok, Err, slice_get, if◌then◌else◌}
+use Rattle.std.specs.Prelude.{◌≡◌, ℕ, ◌≤◌, ◌++◌, true, false, List, [], ◌∷◌, codes, ℤ, Option, Some, None, Result, Ok, Err, slice_get, if◌then◌else◌}
 use Rattle.std.specs.Fmt.{signed_decimal}
 use Rattle.pas_program.specs.declared.expr.Actual.TheFolds.{fold-Expr}
 use Rattle.pas_program.specs.declared.expr.Expr.{Expr}
 use Rattle.pas_program.specs.declared.program.Program.{Program}
 use Rattle.pas_program.specs.Types.{is_scalar}
 use Rattle.control_points.specs.declared.fault.Fault.{Fault}
-use Rattle.control_points.specs.declared.flow.Flow.{Flow}
 use Rattle.control_points.specs.Actions as meaning
 use Rattle.control_points.specs.Actions.{sets, copies, at_depth, Outcome, call, view}
-use Rattle.control_points.specs.Chart.{Chart, leaving}
 use Rattle.control_points.specs.Evaluation.{Answer, Spot, Valued, View, access_step, expr_step, form_step}
 use Rattle.control_points.specs.Flows.{chart_of}
 use Rattle.control_points.specs.Output.{Written, in_columns}

@@ -3,7 +3,6 @@ use Rattle.std.specs.declared.alloc.AllocError.{AllocError}
 use Rattle.control_points.specs.Flows.{chart_of}
 use Rattle.control_points.specs.Steps.{next}
 use Rattle.interp.specs.declared.machine.Progress.TheVariants as progress
-use Rattle.interp.specs.declared.running.Ending.{Ending}
 use Rattle.interp.specs.Meant.{IsStep}
 use Rattle.interp.proofs.ValuingOutput.{front_is}
 use Rattle.interp.proofs.ValuingRuns.{ending_of, ends_so, output_begins, output_stays, reaches_next, run_ends}

@@ -60,5 +60,5 @@ returns-clause-exact c = λ k s st.
     then_spot m s k t place a (spot (view_in m s) c.args.to.now) _ r (c.in_ok-address.ensures.exact s st) (λ q l at.
     subst (λ o. IsDecided m s k (with_taken chart s t q o) r) (told ∙ ap next_number (sym st.items))
     (then_value m s k (checked (is_value_of (slice_get p.types t) x) ValueOutOfRange q.at x) z _ r
-    (ap (λ n. checked (is_value_of (slice_get p.types t) x) ValueOutOfRange n x) at ∙ checked_at p t c.type_of_access-of_type.result c.is_value_of-fits.result ValueOutOfRange place x z fits.number (sym c.type_of_access-of_type.ensures.value) c.is_value_of-fits.ensures c.in_ok-z.ensures)
+    (ap (λ n. checked (is_value_of (slice_get p.types t) x) ValueOutOfRange n x) at ∙ checked_at p t c.type_of_access-of_type.result c.is_value_of-fits.result ValueOutOfRange place x (Ok z) fits.number (sym c.type_of_access-of_type.ensures.value) c.is_value_of-fits.ensures c.in_ok-z.ensures)
     (done_with m s k st (sets q.place (Some z) ∷ []) c.in-Some.rest.now e (ap (λ n. n - 1) (c.len.ensures ∙ m.frames.ok.0)) (ap Some (number_kept z z_number), scalar_at p m.frames.items q.place a t l scalar) refl refl)))

@@ -1,4 +1,4 @@
-use Rattle.std.proofs.Common.{ap, sym, ◌∙◌, subst, refl, Ok, Some}
+use Rattle.std.proofs.Common.{ap, sym, ◌∙◌, subst, refl, Ok}
 use Rattle.std.specs.declared.alloc.AllocError.{AllocError}
 use Rattle.control_points.specs.Chart.{leaving}
 use Rattle.control_points.specs.Flows.{chart_of}
