@@ -4,7 +4,9 @@ use Rattle.std.specs.Prelude.{◌≡◌, ℕ, ◌≤◌, ◌<◌, List, [], leng
 use Rattle.std.specs.Option.{ForSome}
 use Rattle.px_base.specs.Bytes.{ForFile}
 use Rattle.control_points.specs.declared.flow.Flow.{Flow}
-use Rattle.interp.specs.RunText.{IsBounded, run_text}
+use Rattle.control_points.specs.Flows.{chart_of}
+use Rattle.interp.specs.InputItems.{items_of}
+use Rattle.interp.specs.RunText.{IsEnd, run_text}
 use Rattle.interp.specs.declared.running.Ended.{Ended}
 use Rattle.interp.specs.declared.running.Ending.{Ending}
 use Rattle.interp.specs.declared.running.Ending.TheVariants as ending
@@ -74,10 +76,10 @@ status_of ending.OutOfSteps = OutOfSteps
 abbrev pub IsRunStatus : Status → Type 0
 IsRunStatus status = (ending : Ending) × (status ≡ status_of ending)
 
--- What is told of how the run of a flow on the bytes of an input ends: it makes at most so many steps, and runs out of them only
--- after as many. Which states it goes through isn't told.
+-- The run of a flow on the bytes of an input, of at most so many steps, ends so: its last state has this output, and its next step
+-- is this one.
 abbrev pub Ends : Flow → List ℕ → ℕ → Ended → Type 0
-Ends flow bytes steps ended = IsBounded steps ended
+Ends flow bytes steps ended = IsEnd (chart_of flow) (items_of bytes) steps ended
 
 -- The text is that of the run of the file's program on the items of the input, of at most so many steps, and the status is
 -- that of its end.

@@ -1,3 +1,6 @@
+use Rattle.std.proofs.Common.{subst}
+use Rattle.control_points.specs.Flows.{chart_of}
+use Rattle.interp.specs.RunText.{IsEnd}
 use Rattle.syntox.proofs.Owed.{source_of}
 use Rattle.syntox.proofs.run.run_on.Goals as goal
 
@@ -9,7 +12,7 @@ returns-clause-run c = record {
   bytes = c.args.input.now;
   is_input = record { given = (λ known e. cc); within = c.requires.input };
   ended = c.in_ok-ended.ended;
-  ends = c.in_ok-ended.ensures.bounded;
+  ends = subst (λ items. IsEnd (chart_of c.args.flow.now) items c.args.steps c.in_ok-ended.ended) c.in_ok-items.ensures.items c.in_ok-ended.ensures.ended;
   is_status = c.status_of-status.ensures;
   is_text = c.in_ok-text.ensures;
 }
