@@ -11,6 +11,11 @@ use Rattle.interp.proofs.Lists.{one_of}
 use Rattle.interp.proofs.Passing.{room_kept}
 use Rattle.interp.proofs.machine.Machine.call.Goals as goal
 
+pub parent_of-parent-requires-clause-in_range : goal.parent_of-parent-requires-clause-in_range
+parent_of-parent-requires-clause-in_range c =
+    let m = c.args.self.now in
+    (call_facts m.flow.now m.frames.items m.framed c.args.edge c.args.routine c.args.actuals.now c.requires.call).in_range
+
 pub parent_of-parent-requires-clause-callable : goal.parent_of-parent-requires-clause-callable
 parent_of-parent-requires-clause-callable c =
     let m = c.args.self.now in
