@@ -1,6 +1,7 @@
 -- At the exit of a routine the return of the latest activation's call is the one action to be done.
 use Rattle.std.proofs.Common.{◌≡◌, ℕ, zero, suc, ◌+◌, inl, inr, Bool, true, false, List, [], ◌∷◌, refl, sym, ap, ◌∙◌, subst, arith, Option, Some, None, Ok, Err, nat_eq, add-zero}
 use Rattle.std.specs.List.{slice_get}
+use Rattle.std.specs.Option.{option_map}
 use Rattle.std.proofs.lemmas.Bool.{cases_Bool, cond-true, cond-false, true≢false, eqb-true, eq-eqb}
 use Rattle.std.proofs.lemmas.Option.{none-some}
 use Rattle.control_points.specs.declared.edge.Act.{Act}
@@ -12,17 +13,18 @@ use Rattle.control_points.specs.Actions as meaning
 use Rattle.control_points.specs.Actions.{Outcome, effect_of, give_back, slot_at, was_made_by}
 use Rattle.control_points.specs.Chart.{Chart, leaving, numbers_from, place_of_point}
 use Rattle.control_points.specs.Evaluation.{Answer}
-use Rattle.control_points.specs.Fits.{act_at, is_return_of, kind_at}
+use Rattle.control_points.specs.Fits.{act_at, is_return_of, kind_at, routine_at}
 use Rattle.control_points.specs.Flows.{chart_of}
 use Rattle.control_points.specs.Leading.{is_return}
 use Rattle.control_points.specs.States.{State}
 use Rattle.control_points.specs.Steps.{edge_effect, first_done, or_else}
+use Rattle.control_points.proofs.Exits.{flow_pairs}
 use Rattle.interp.specs.declared.frame.Frame.{Frame}
 use Rattle.interp.specs.declared.machine.Machine.{Machine}
-use Rattle.interp.specs.Deeds.{IsWayBack}
-use Rattle.interp.specs.Machines.{AreFrames, top_point}
+use Rattle.interp.specs.Deeds.{IsWayBack, source_of, top_call}
+use Rattle.interp.specs.Machines.{AreFrames, top_of, top_point, top_routine}
 use Rattle.interp.specs.Standing.{StandsFor}
-use Rattle.interp.proofs.Asking.{made_by}
+use Rattle.interp.proofs.Asking.{made_by, top_is}
 use Rattle.interp.proofs.Chains.{holds_some}
 use Rattle.interp.proofs.Choosing.{others}
 use Rattle.interp.proofs.Edges.{leaves_at}
@@ -117,6 +119,18 @@ stands_at_exit flow frames h k w =
     let same : f.0 ≡ g.0 = same_some f.0 g.0 (sym f.1 ∙ ap (slice_get flow.edges) w.after ∙ g.1) in
     let back = flow.exits_return.back k f.0 f.1 (ap (λ (e : Edge). is_return e.act) same ∙ ap is_return g.2 ∙ return_is w.call r.0 r.2) in
     ap (kind_at flow.points) (sym f.2) ∙ back
+
+-- at an exit the return of the latest activation's call leaves its point, since a routine has one exit
+pub returns_here : (flow : Flow) (frames : List Frame) → AreFrames flow frames → (call : ℕ) → top_call frames ≡ Some call → kind_at flow.points (top_point frames) ≡ Some kind.Exit → source_of flow.edges (suc call) ≡ Some (top_point frames)
+returns_here flow frames h call made exit =
+    let r = top_routine frames in
+    let t = top_is flow frames h in
+    let m = made_by flow frames h call made in
+    let w = holds_some (is_return_of call) (act_at flow.edges (suc call)) (flow.calls_return.return call r m.site m.known m.callee) in
+    let g = map_found (λ (e : Edge). e.act) (slice_get flow.edges (suc call)) w.0 w.1 in
+    let stands = ap (routine_at flow.points) t.point ∙ h.stands (top_of frames) t.frame t.known ∙ ap Some (sym t.routine) in
+    let same = (flow_pairs flow).exit_once g.0.from (top_point frames) r (flow.calls_return.exit call r m.site g.0 m.known g.1 m.callee) exit (flow.calls_return.exited call r m.site g.0 m.known g.1 m.callee) stands in
+    ap (option_map (λ (e : Edge). e.from)) g.1 ∙ ap Some same
 
 -- of the edges that leave the point of the latest activation its way back is the only one whose action may be to be done
 pub way_back_first : (m : Machine) (s : State) → StandsFor m s → (k : ℕ) → IsWayBack m.flow.now.edges m.frames.items k

@@ -1,5 +1,5 @@
 //! Which action is to be done next, and what it does (ISO 7185, 6.8 and 6.9).
-ghost use Rattle.std.specs.Prelude.{◌≡◌, ℕ, ◌-◌, ◌<◌, ◌++◌, false, List, [], ◌∷◌, length, map, pos, slice_get, IfOk, IfSome, None, Ok, Some, true};
+ghost use Rattle.std.specs.Prelude.{◌≡◌, ℕ, suc, ◌^◌, ◌-◌, ◌<◌, ◌++◌, false, List, [], ◌∷◌, length, map, pos, slice_get, IfOk, IfSome, None, Ok, Some, true};
 ghost use Rattle.px_base.specs.declared.kind.Kind.TheVariants as kind;
 ghost use Rattle.pas_program.specs.declared.expr.Actual.TheViews.{out-Expr};
 ghost use Rattle.pas_program.specs.declared.statement.WriteValue.TheVariants as written;
@@ -15,6 +15,8 @@ ghost use Rattle.control_points.specs.Actions as meaning;
 ghost use Rattle.control_points.specs.Actions.{at_depth, top_depth};
 ghost use Rattle.control_points.specs.Chart.{Chart, leaving, place_of_point};
 ghost use Rattle.control_points.specs.Evaluation.{checked, then_with, value};
+ghost use Rattle.control_points.specs.declared.point.PointKind.TheVariants as point;
+ghost use Rattle.control_points.specs.Fits.{kind_at};
 ghost use Rattle.control_points.specs.Flows.{chart_of};
 ghost use Rattle.control_points.specs.Output.{is_width};
 ghost use Rattle.control_points.specs.Steps.{selector_of};
@@ -92,7 +94,8 @@ impl<'a> Machine<'a> {
 
     /// The edge by which the latest activation returns, where it stands at its exit and a call made it.
     fn way_back(&self) -> Option<u32>
-        ensures { IfSome result (IsWayBack self.now.flow.now.edges self.now.frames.items) }
+        ensures leads { IfSome result (IsWayBack self.now.flow.now.edges self.now.frames.items) }
+        ensures found { (call : ℕ) → top_call self.now.frames.items ≡ Some call → suc call < 2 ^ 32 → kind_at self.now.flow.now.points (top_point self.now.frames.items) ≡ Some point.Exit → result ≡ Some (suc call) }
     {
         let flow = self.flow;
         let top = self.top();

@@ -19,4 +19,4 @@ pub returns-in-Some-clause-exact : goal.returns-in-Some-clause-exact
 returns-in-Some-clause-exact c = λ s st.
     let m = c.args.self.now in
     let k = c.in-Some.number in
-    first_same m s (leaving m.flow.now.edges (top_point m.frames.items)) (k ∷ []) c.first.result (way_back_first m s st k c.in-Some.ensures) (c.first.ensures.exact s st)
+    first_same m s (leaving m.flow.now.edges (top_point m.frames.items)) (k ∷ []) c.first.result (way_back_first m s st k c.in-Some.ensures.leads) (c.first.ensures.exact s st)
