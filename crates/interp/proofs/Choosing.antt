@@ -8,7 +8,7 @@ use Rattle.control_points.specs.declared.fault.Fault.{Fault}
 use Rattle.control_points.specs.declared.flow.Flow.{Flow}
 use Rattle.control_points.specs.Actions as meaning
 use Rattle.control_points.specs.Actions.{Outcome, Passing, effect_of, formals_of, frame_of_call, anew, pass}
-use Rattle.control_points.specs.Chart.{Chart, leaving, place_of_point}
+use Rattle.control_points.specs.Chart.{Chart, place_of_point}
 use Rattle.control_points.specs.Evaluation.{Answer, then_with}
 use Rattle.control_points.specs.Flows.{chart_of}
 use Rattle.control_points.specs.States.{State}
@@ -17,10 +17,11 @@ use Rattle.interp.specs.declared.decide.Deed.{Deed}
 use Rattle.interp.specs.declared.decide.Deed.TheVariants as deed
 use Rattle.interp.specs.declared.frame.Frame.{Frame}
 use Rattle.interp.specs.declared.machine.Machine.{Machine}
+use Rattle.interp.specs.Deeds.{AreOnward}
 use Rattle.interp.specs.Machines.{AreFrames, top_point}
 use Rattle.interp.specs.Meant.{IsDone, IsFirst, IsFirstDone}
 use Rattle.interp.proofs.Asking.{Onward, onward}
-use Rattle.interp.proofs.Edges.{leaves_at}
+use Rattle.interp.proofs.Storage.{map_found}
 
 -- the edge at a place of the list, and those after it
 pub first_at : (c : Chart) (s : State) (ks : List ℕ) (i k : ℕ) (e : Edge) → i < length ks → get_or ks i 0 ≡ k → slice_get c.edges k ≡ Some e
@@ -47,6 +48,12 @@ done_else m s k outcome (deed.Calls routine actuals) x y h =
 pub first_is : (m : Machine) (s : State) (ks : List ℕ) (k : ℕ) (outcome : Outcome) (d : Deed) (rest : Answer (Option State)) → first_done (chart_of m.flow.now) s ks ≡ or_else (chart_of m.flow.now) s k outcome rest → IsDone m s k outcome d → IsFirstDone m s ks k d
 first_is m s ks k outcome d rest e h = record { outcome = outcome; first = e ∙ done_else m s k outcome d rest (Ok None) h; done = h }
 
+-- edges of which the first to be done is the same
+pub first_same : (m : Machine) (s : State) (ks js : List ℕ) (result : Result (Option (ℕ × Deed)) Fault) → first_done (chart_of m.flow.now) s ks ≡ first_done (chart_of m.flow.now) s js → IsFirst m s js result → IsFirst m s ks result
+first_same m s ks js (Ok None) e h = e ∙ h
+first_same m s ks js (Ok (Some (k, d))) e h = record { outcome = h.outcome; first = e ∙ h.first; done = h.done }
+first_same m s ks js (Err f) e h = e ∙ h
+
 pub first_error : (c : Chart) (s : State) (k : ℕ) (outcome : Outcome) (f : Fault) (rest : Answer (Option State)) → outcome ≡ Err f → or_else c s k outcome rest ≡ Err f
 first_error c s k outcome f rest e = ap (λ o. or_else c s k o rest) e
 
@@ -56,28 +63,20 @@ first_wrong m s ks result f e h = subst (IsFirst m s ks) (sym e) h
 pub others : (c : Chart) (s : State) (k : ℕ) (outcome : Outcome) (rest : Answer (Option State)) → outcome ≡ Ok None → or_else c s k outcome rest ≡ rest
 others c s k outcome rest e = ap (λ o. or_else c s k o rest) e
 
--- ---- the edges that leave the point of the latest activation
+-- ---- an edge that leaves the point of the latest activation
 
--- the edge e, which is the k-th of the flow and stands at the place i of the list
-pub record Met (flow : Flow) (frames : List Frame) (i k : ℕ) (e : Edge) : Type 0 where
-  pub within : i < length (leaving flow.edges (top_point frames))
-  pub listed : get_or (leaving flow.edges (top_point frames)) i 0 ≡ k
+-- the edge e is the k-th of the flow
+pub record Met (flow : Flow) (frames : List Frame) (k : ℕ) (e : Edge) : Type 0 where
   pub known : slice_get flow.edges k ≡ Some e
   pub leaves : e.from ≡ top_point frames
   pub onward : Onward flow frames e
 
-pub edge_met : (flow : Flow) (frames : List Frame) → AreFrames flow frames → (xs : List ℕ) (edges : List Edge) (i : ℕ) (e : Edge) → xs ≡ leaving flow.edges (top_point frames) → edges ≡ flow.edges → i < length xs → e ≡ get_or edges (get_or xs i 0) e
-    → Met flow frames i (get_or xs i 0) e
-edge_met flow frames h xs edges i e listed es within is =
-    let k = get_or xs i 0 in
-    let w = leaves_at flow.edges (top_point frames) i k (sym (ap (λ ys. slice_get ys i) listed) ∙ slice_get-get_or xs i 0 within) in
-    let same : e ≡ w.edge = is ∙ ap (λ es. get_or es k e) es ∙ get_or_from_slice_get flow.edges k w.edge e w.known in
-    let known = w.known ∙ ap Some (sym same) in
-    let leaves = ap (λ (e : Edge). e.from) same ∙ w.source in
-    record {
-      within = subst (λ ys. i < length ys) listed within;
-      listed = ap (λ ys. get_or ys i 0) (sym listed);
-      known = known;
-      leaves = leaves;
-      onward = onward flow frames h k e known leaves;
-    }
+pub edge_met : (flow : Flow) (frames : List Frame) → AreFrames flow frames → (ks : List ℕ) → AreOnward flow.edges (top_point frames) ks → (edges : List Edge) (i : ℕ) (e : Edge) → edges ≡ flow.edges → i < length ks → e ≡ get_or edges (get_or ks i 0) e
+    → Met flow frames (get_or ks i 0) e
+edge_met flow frames h ks out edges i e es within is =
+    let k = get_or ks i 0 in
+    let w = map_found (λ (e : Edge). e.from) (slice_get flow.edges k) (top_point frames) (out i k (slice_get-get_or ks i 0 within)) in
+    let same : e ≡ w.0 = is ∙ ap (λ es. get_or es k e) es ∙ get_or_from_slice_get flow.edges k w.0 e w.1 in
+    let known = w.1 ∙ ap Some (sym same) in
+    let leaves = ap (λ (e : Edge). e.from) same ∙ w.2 in
+    record { known = known; leaves = leaves; onward = onward flow frames h k e known leaves }

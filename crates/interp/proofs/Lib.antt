@@ -36,3 +36,4 @@ pub mod ValuingOutput
 pub mod ValuingParts
 pub mod ValuingRuns
 pub mod ValuingSteps
+pub mod WayBack

@@ -1,6 +1,6 @@
 -- What an action that is to be done may ask of a machine: which activation goes on, what changes in the storage, and the input
 -- that is left.
-use Rattle.std.specs.Prelude.{◌≡◌, ℕ, ◌+◌, ◌-◌, ◌<◌, ◌≤◌, Bool, false, List, length, ℤ, Option, Some, None, is_some, Result, IfOk, IfSome, slice_get, slice_set, ◌++◌, take, drop}
+use Rattle.std.specs.Prelude.{◌≡◌, ℕ, suc, ◌+◌, ◌-◌, ◌<◌, ◌≤◌, Bool, false, List, length, ℤ, Option, Some, None, is_some, Result, IfOk, IfSome, slice_get, slice_set, ◌++◌, take, drop}
 use Rattle.std.specs.Option.{option_map, option_and_then}
 use Rattle.arithmetic.specs.Numbers.{IsNumber}
 use Rattle.pas_program.specs.declared.expr.Actual.{Actual}
@@ -83,6 +83,17 @@ target_of edges k = option_map (λ (e : Edge). e.to) (slice_get edges k)
 -- the edge of the call that made the latest activation
 abbrev pub top_call : List Frame → Option ℕ
 top_call frames = option_and_then (λ (g : Frame). g.call) (slice_get frames (top_of frames))
+
+-- edges that leave the point p
+abbrev pub AreOnward : List Edge → ℕ → List ℕ → Type 0
+AreOnward edges p ks = (i k : ℕ) → slice_get ks i ≡ Some k → source_of edges k ≡ Some p
+
+-- The latest activation returns by the edge k: it leaves the activation's point, right after the edge of the call that made it.
+pub record IsWayBack (edges : List Edge) (frames : List Frame) (k : ℕ) : Type 0 where
+  pub call : ℕ
+  pub made : top_call frames ≡ Some call
+  pub after : k ≡ suc call
+  pub leaves : source_of edges k ≡ Some (top_point frames)
 
 abbrev pub IsTheCall : ℕ → List Actual → Deed → Type 0
 IsTheCall routine actuals (deed.Lands effect) = ⊥

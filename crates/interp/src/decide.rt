@@ -1,5 +1,5 @@
 //! Which action is to be done next, and what it does (ISO 7185, 6.8 and 6.9).
-ghost use Rattle.std.specs.Prelude.{◌≡◌, ℕ, ◌-◌, ◌<◌, ◌++◌, false, List, [], ◌∷◌, length, map, pos, slice_get, IfOk, IfSome, None, Ok, Some, true};
+ghost use Rattle.std.specs.Prelude.{◌≡◌, ℕ, suc, ◌^◌, ◌-◌, ◌<◌, ◌++◌, false, List, [], ◌∷◌, length, map, pos, slice_get, IfOk, IfSome, None, Ok, Some, true};
 ghost use Rattle.px_base.specs.declared.kind.Kind.TheVariants as kind;
 ghost use Rattle.pas_program.specs.declared.expr.Actual.TheViews.{out-Expr};
 ghost use Rattle.pas_program.specs.declared.statement.WriteValue.TheVariants as written;
@@ -15,13 +15,15 @@ ghost use Rattle.control_points.specs.Actions as meaning;
 ghost use Rattle.control_points.specs.Actions.{at_depth, top_depth};
 ghost use Rattle.control_points.specs.Chart.{Chart, leaving, place_of_point};
 ghost use Rattle.control_points.specs.Evaluation.{checked, then_with, value};
+ghost use Rattle.control_points.specs.declared.point.PointKind.TheVariants as point;
+ghost use Rattle.control_points.specs.Fits.{kind_at};
 ghost use Rattle.control_points.specs.Flows.{chart_of};
 ghost use Rattle.control_points.specs.Output.{is_width};
 ghost use Rattle.control_points.specs.Steps.{selector_of};
 ghost use Rattle.control_points.specs.Storage.{whole};
 ghost use Rattle.control_points.specs.Input as input;
 ghost use Rattle.std.specs.Option.{option_map};
-ghost use Rattle.interp.specs.Deeds.{AreSafe, IsAsked, IsChange, IsDeedOf, IsOwn, LandsAt, is_function, result_in, top_call};
+ghost use Rattle.interp.specs.Deeds.{AreOnward, AreSafe, IsAsked, IsChange, IsDeedOf, IsOwn, IsWayBack, LandsAt, is_function, result_in, top_call};
 ghost use Rattle.interp.specs.Meant.{InState, IsChangeOf, IsDecided, IsFirst, bytes_of, text_of, view_in};
 ghost use Rattle.interp.specs.Machines.{AreItems, top_of, top_point, top_routine};
 
@@ -84,8 +86,36 @@ impl<'a> Machine<'a> {
         ensures safe { IfOk result (λ o. IfSome o (λ d. IsDeedOf self.now.flow.now self.now.frames.items d.0 d.1)) }
         ensures exact { InState self.now (λ s. IsFirst self.now s (leaving self.now.flow.now.edges (top_point self.now.frames.items)) result) }
     {
+        match self.way_back() {
+            Some(number) => self.first(&[number]),
+            None => self.first(self.edges_onward()),
+        }
+    }
+
+    /// The edge by which the latest activation returns, where it stands at its exit and a call made it.
+    fn way_back(&self) -> Option<u32>
+        ensures leads { IfSome result (IsWayBack self.now.flow.now.edges self.now.frames.items) }
+        ensures found { (call : ℕ) → top_call self.now.frames.items ≡ Some call → suc call < 2 ^ 32 → kind_at self.now.flow.now.points (top_point self.now.frames.items) ≡ Some point.Exit → result ≡ Some (suc call) }
+    {
         let flow = self.flow;
-        for number in self.edges_onward() {
+        let top = self.top();
+        let number = top.call?.checked_add(1)?;
+        let edge = flow.edges().get(number as usize)?;
+        if edge.from as usize == top.point {
+            Some(number)
+        } else {
+            None
+        }
+    }
+
+    /// The first of these edges, which leave the point of the latest activation, whose action is to be done, and that action.
+    fn first(&self, numbers: &[u32]) -> Result<Option<(u32, Deed<'a>)>, Fault>
+        requires { AreOnward self.now.flow.now.edges (top_point self.now.frames.items) numbers.now }
+        ensures safe { IfOk result (λ o. IfSome o (λ d. IsDeedOf self.now.flow.now self.now.frames.items d.0 d.1)) }
+        ensures exact { InState self.now (λ s. IsFirst self.now s numbers.now result) }
+    {
+        let flow = self.flow;
+        for number in numbers {
             if let Some(deed) = self.deed_of(&flow.edges()[*number as usize])? {
                 return Ok(Some((*number, deed)));
             }
