@@ -10,4 +10,5 @@ pub mod Routine
 pub mod Rules
 pub mod Sight
 pub mod Statement
+pub mod Statements
 pub mod TypeExpr

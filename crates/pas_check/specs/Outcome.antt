@@ -1,5 +1,5 @@
 -- What a test answers, and what the code ensures of it.
-use Rattle.std.specs.Prelude.{◌≡◌, ℕ, Bool, true, false, Result, Ok, Err, Option, Some, None}
+use Rattle.std.specs.Prelude.{◌≡◌, ℕ, Bool, true, false, List, [], ◌∷◌, Result, Ok, Err, Option, Some, None}
 use Rattle.pas_check.specs.declared.fault.Fault.{Fault}
 use Rattle.pas_check.specs.declared.fault.Fault.TheVariants.{Broken, Memory}
 use Rattle.pas_check.specs.declared.fault.Rule.{Rule}
@@ -21,6 +21,13 @@ unless false rule at rest = rest
 abbrev pub needed : {A : Type 0} → Option A → Rule → ℕ → Outcome A
 needed None rule at = Err (Broken rule at)
 needed (Some a) rule at = Ok a
+
+-- one test after the other
+abbrev pub each : {A : Type 0} → (A → Outcome (Unit {0})) → List A → Outcome (Unit {0})
+each test [] = Ok tt
+each test (a ∷ rest) = do
+  done ← test a
+  each test rest
 
 -- a broken rule, and not want of memory
 abbrev pub IsBroken : Fault → Type 0

@@ -1,5 +1,5 @@
 -- The tests of a heading and of a block's end (ISO 7185, 6.6.1 and 6.6.2).
-use Rattle.std.specs.Prelude.{ℕ, Ok}
+use Rattle.std.specs.Prelude.{ℕ, Bool, Ok}
 use Rattle.pas_tree.specs.declared.block.RoutineBody.TheOpen.{Routine-F}
 use Rattle.pas_check.specs.declared.fault.Rule.TheVariants as rule
 use Rattle.pas_check.specs.declared.routine.Head.{Head}
@@ -15,8 +15,8 @@ abbrev pub repeated_heading : {A B C : Type 0} → Routine-F A B C → Outcome (
 repeated_heading r = unless (repeats_heading r.formals r.result) rule.DeclaredOnce r.name.start (Ok tt)
 
 -- at the end of a function's block, and of the block around a heading
-abbrev pub result_assigned : Head → Outcome (Unit {0})
-result_assigned h = unless (is_never_assigned h.result h.assigned) rule.Result h.name.start (Ok tt)
+abbrev pub result_assigned : Head → Bool → Outcome (Unit {0})
+result_assigned h assigned = unless (is_never_assigned h.result assigned) rule.Result h.name.start (Ok tt)
 
 abbrev pub body_given : Head → Outcome (Unit {0})
 body_given h = unless (lacks_body h.has_body) rule.Body h.name.start (Ok tt)

@@ -4,18 +4,19 @@ use crate::checker::Checker;
 use crate::fault::{Fault, Rule};
 use crate::frame::Frame;
 use crate::label::place_sequence;
-use crate::meaning::Meaning;
+use crate::meaning::{Meaning, Variable};
 use crate::plan::Plan;
 use crate::scope::Scope;
 use pas_program::{Body, Statement, VarKind};
 use pas_tree::{Block, ConstDecl, Routine, RoutineBody, Tree, TypeDecl, VarDecl};
+use px_base::Span;
 use sqlite_items::Items;
 use std::alloc::AllocError;
 
 impl<'t> Checker<'t> {
     /// The program's block.
     pub fn program(&mut self, tree: &Tree) -> Result<(), Fault> {
-        let mut scope = Scope::new(self.seen.alloc, self.seen.routine);
+        let mut scope = Scope::new(self.seen.alloc, self.made.frame.routine);
         self.note_block(&mut scope, &tree.block)?;
         self.push_scope(scope)?;
         let body = self.block(&tree.block, None)?;
@@ -97,12 +98,24 @@ impl<'t> Checker<'t> {
             self.claim_names(decl.names.as_slice())?;
             let of_type = self.type_expr(&decl.of_type)?;
             for name in decl.names.as_slice() {
-                let variable = self.made.variable(*name, VarKind::Local, of_type)?;
-                self.seen
-                    .define(&mut self.made, *name, Meaning::Variable(variable))?;
+                self.variable(*name, of_type)?;
             }
         }
         Ok(())
+    }
+
+    /// A variable of the block at hand.
+    fn variable(&mut self, name: Span, of_type: u32) -> Result<(), Fault> {
+        let number = self.made.add_own(name, VarKind::Local, of_type)?;
+        let variable = Variable {
+            number,
+            at: name.start,
+            level: self.seen.level,
+            kind: VarKind::Local,
+            of_type,
+        };
+        self.seen
+            .define(&mut self.made, name, Meaning::Variable(variable))
     }
 
     #[cycle(block)]

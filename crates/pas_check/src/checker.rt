@@ -65,16 +65,18 @@ impl<'t> Checker<'t> {
                 scopes: Vec::new(alloc),
                 types: Types::new(alloc)?,
                 heads: Vec::new(alloc),
-                routine: number,
+                level: 0,
                 asserting: false,
                 looping: IndexMap::new(alloc),
+                threatened: IndexMap::new(alloc),
             },
             made: Made {
                 vars: Items::new(alloc),
                 routines: Items::new(alloc),
                 asserts: Items::new(alloc),
                 frame,
-                threatened: IndexMap::new(alloc),
+                threats: Vec::new(alloc),
+                assigned: IndexMap::new(alloc),
                 lower: Vec::new(alloc),
             },
         };
@@ -104,7 +106,7 @@ impl<'t> Checker<'t> {
 
     /// Goes into the block of another routine, and answers the frame of the one that was at hand.
     pub fn exchange_frame(&mut self, frame: Frame) -> Frame {
-        self.seen.routine = frame.routine;
+        self.seen.level = frame.level;
         mem::replace(&mut self.made.frame, frame)
     }
 }

@@ -399,12 +399,12 @@ impl<'t> Seen<'t> {
         if self.is_asserting() {
             return Err(Rule::AssertionCall.broken(name.start));
         }
-        let slot = made.variable(name, VarKind::Slot, callee.result)?;
+        let slot = made.add_own(name, VarKind::Slot, callee.result)?;
         let actuals = self.actuals(made, head, actuals)?;
         Ok(self.called(
             callee.routine,
             actuals,
-            slot.number,
+            slot,
             callee.result,
             name.start,
         ))

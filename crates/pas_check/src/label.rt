@@ -1,10 +1,11 @@
 //! Labels and where they stand (ISO 7185, 6.8.1).
 
-ghost use Rattle.std.specs.Prelude.{◌≡◌, None, OnOk, Some, nat_eq, reverse};
+ghost use Rattle.std.specs.Prelude.{◌≡◌, None, OnOk, Some, map, nat_eq, reverse};
 ghost use Rattle.indexmap.specs.IndexMap.{Updates};
 ghost use Rattle.pas_check.specs.Labels as spec;
-ghost use Rattle.pas_check.specs.Labels.{first_scope};
+ghost use Rattle.pas_check.specs.Labels.{label_before, labelled};
 ghost use Rattle.pas_check.specs.Outcome.{Gives};
+ghost use Rattle.pas_check.specs.Sight.{sight};
 
 use crate::checker::Checker;
 use crate::fault::{Fault, Rule};
@@ -223,7 +224,7 @@ impl LabelDecl {
 /// The routine whose block declares the label of a `goto` that stands at `at`: the innermost of these, which stand from the
 /// outside to the inside. `inner` says whether the `goto` stands in the last of them.
 fn left_for(scopes: &[Scope], label: Label, at: u32, inner: bool) -> Result<u32, Fault>
-    ensures value { Gives (λ r. r) (spec.left_for (reverse scopes.now) label at inner) result }
+    ensures value { Gives (λ r. r) (spec.left_for (map labelled (reverse scopes.now)) label at inner) result }
 {
     let Some((scope, around)) = scopes.split_last() else {
         return Err(Rule::Label.broken(label.at.start));
@@ -241,9 +242,20 @@ fn left_for(scopes: &[Scope], label: Label, at: u32, inner: bool) -> Result<u32,
 }
 
 impl<'t> Seen<'t> {
+    /// The label of a statement, if it has one.
+    pub fn label_before(&self, label: Option<Label>) -> Result<Option<u32>, Fault>
+        ensures value { Gives (λ n. tt) (label_before (sight self.now).labels label) result }
+    {
+        match label {
+            Some(label) => Ok(Some(self.placed_label(label)?)),
+            None => Ok(None),
+        }
+    }
+
     /// Tests a label at a statement: its block declares it, and no statement before has it.
-    pub fn placed_label(&self, label: Label) -> Result<u32, Fault>
-        ensures value { Gives (λ n. n) (spec.placed_by (first_scope (reverse self.now.scopes.items)) label) result }
+    #[tactic(auto, unfolding(crate::specs::Sight::sight))]
+    fn placed_label(&self, label: Label) -> Result<u32, Fault>
+        ensures value { Gives (λ n. n) (spec.placed_by (sight self.now).labels label) result }
     {
         match innermost(self.scopes.as_slice()) {
             Some(scope) => scope.placed_label(label),
@@ -253,8 +265,9 @@ impl<'t> Seen<'t> {
 
     /// A `goto` that stands at `at`: to a statement that contains it, a member of a sequence that contains it, or a member
     /// of the outermost sequence of a block around it.
+    #[tactic(auto, unfolding(crate::specs::Sight::sight))]
     pub fn goto(&self, label: Label, at: u32) -> Result<Body, Fault>
-        ensures value { Gives (λ b. tt) (spec.goto_allowed (reverse self.now.scopes.items) label at) result }
+        ensures value { Gives (λ b. tt) (spec.goto_allowed (sight self.now).labels label at) result }
     {
         let routine = left_for(self.scopes.as_slice(), label, at, true)?;
         Ok(Body::Goto {

@@ -42,15 +42,13 @@ pub struct Head {
     pub has_body: bool,
     /// Whether the walk is inside its block.
     inside: bool,
-    /// Whether its block assigns to its name.
-    assigned: bool,
 }
 
 impl Head {
-    fn result_assigned(&self) -> Result<(), Fault>
-        ensures value { Gives (λ u. u) (allowed.result_assigned self.now) result }
+    fn result_assigned(&self, assigned: bool) -> Result<(), Fault>
+        ensures value { Gives (λ u. u) (allowed.result_assigned self.now assigned) result }
     {
-        if self.result.is_some() && !self.assigned {
+        if self.result.is_some() && !assigned {
             Err(Rule::Result.broken(self.name.start))
         } else {
             Ok(())
@@ -155,13 +153,6 @@ impl<'t> Seen<'t> {
 }
 
 impl<'t> Checker<'t> {
-    /// Takes note that a function's block assigns to its name.
-    pub fn assign_result(&mut self, head: usize) {
-        if let Some(head) = self.seen.heads.get_mut(head) {
-            head.assigned = true;
-        }
-    }
-
     /// A heading with its block, if it has one; `later` is the block of a `forward` heading's body.
     #[cycle(block)]
     pub fn routine(
@@ -206,7 +197,7 @@ impl<'t> Checker<'t> {
     ) -> Result<(usize, Scope), Fault> {
         let name = routine.name;
         self.seen.claim(&mut self.made, name)?;
-        heading_allowed(routine, self.made.frame.level)?;
+        heading_allowed(routine, self.seen.level)?;
         let head = self.seen.heads.len();
         let function = routine.function;
         self.seen
@@ -219,14 +210,13 @@ impl<'t> Checker<'t> {
         let mut made = Head {
             name,
             routine: number,
-            level: self.made.frame.level.saturating_add(1),
+            level: self.seen.level.saturating_add(1),
             formals: Vec::new(self.seen.alloc),
             numbers: Items::new(self.seen.alloc),
             result: None,
             waiting: None,
             has_body: false,
             inside: false,
-            assigned: false,
         };
         self.push_scope(scope)?;
         self.formals(&mut made, routine.formals.as_slice())?;
@@ -281,21 +271,40 @@ impl<'t> Checker<'t> {
         of_type: u32,
     ) -> Result<(), Fault> {
         let kind = if by_var { VarKind::Var } else { VarKind::Value };
-        let variable = self.made.add_variable(name, head.routine, kind, of_type)?;
+        let number = self.made.add_variable(name, head.routine, kind, of_type)?;
+        let variable = Variable {
+            number,
+            at: name.start,
+            level: head.level,
+            kind,
+            of_type,
+        };
         self.seen
             .define(&mut self.made, name, Meaning::Variable(variable))?;
-        head.numbers.push(variable.number).map_err(Fault::Memory)?;
+        head.numbers.push(number).map_err(Fault::Memory)?;
         push_formal(&mut head.formals, Formal { by_var, of_type }).map_err(Fault::Memory)
     }
 
     /// The variable for the result of a function, whose type is a scalar.
     fn result(&mut self, name: Span, routine: u32, of_type: Span) -> Result<Variable, Fault> {
+        let of_type = self.result_type(of_type)?;
+        let kind = VarKind::Result;
+        let number = self.made.add_variable(name, routine, kind, of_type)?;
+        Ok(Variable {
+            number,
+            at: name.start,
+            level: self.seen.level.saturating_add(1),
+            kind,
+            of_type,
+        })
+    }
+
+    fn result_type(&mut self, of_type: Span) -> Result<u32, Fault> {
         let number = self.seen.named_type(&mut self.made, of_type)?;
         if self.seen.types.host(number).is_none() {
             return Err(Rule::Type.broken(of_type.start));
         }
-        self.made
-            .add_variable(name, routine, VarKind::Result, number)
+        Ok(number)
     }
 
     /// A heading with the word `forward` in place of a block.
@@ -325,6 +334,7 @@ impl<'t> Checker<'t> {
         let outer = self.exchange_frame(frame);
         self.push_scope(scope)?;
         let body = self.block(block, Some(head))?;
+        self.note_threats().map_err(Fault::Memory)?;
         if let Some(made) = self.seen.heads.get_mut(head) {
             made.inside = false;
         }
@@ -355,8 +365,12 @@ impl<'t> Checker<'t> {
 
     /// Tests that a function's block assigned to its name.
     pub fn result_assigned(&self, head: Option<usize>) -> Result<(), Fault> {
-        match head.and_then(|head| self.seen.heads.get(head)) {
-            Some(head) => head.result_assigned(),
+        let Some(head) = head else {
+            return Ok(());
+        };
+        let assigned = self.made.assigned.contains_key(&head);
+        match self.seen.heads.get(head) {
+            Some(head) => head.result_assigned(assigned),
             None => Ok(()),
         }
     }
