@@ -1,4 +1,5 @@
 pub mod Constants
+pub mod Declarations
 pub mod Declared
 pub mod Found
 pub mod Loops

@@ -1,5 +1,6 @@
 pub mod Constant
 pub mod Control
+pub mod Declarations
 pub mod Expr
 pub mod Fault
 pub mod FirstFault

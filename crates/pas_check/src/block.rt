@@ -1,5 +1,10 @@
 //! Blocks and their declarations (ISO 7185, 6.2).
 
+ghost use Rattle.std.specs.Prelude.{◌≡◌};
+ghost use Rattle.pas_check.specs.Declarations.{const_declared, led_by, type_declared};
+ghost use Rattle.pas_check.specs.Outcome.{Gives};
+ghost use Rattle.pas_check.specs.Sight.{sight};
+
 use crate::checker::Checker;
 use crate::fault::{Fault, Rule};
 use crate::frame::Frame;
@@ -73,24 +78,42 @@ impl<'t> Checker<'t> {
         Ok(())
     }
 
-    fn const_part(&mut self, decls: &[ConstDecl]) -> Result<(), Fault> {
+    fn const_part(&mut self, decls: &[ConstDecl]) -> Result<(), Fault>
+        ensures value { Gives (λ u. sight self.new.seen) (led_by const_declared (sight self.old.seen) decls.now) result }
+    {
         for decl in decls {
-            self.seen.claim(&mut self.made, decl.name)?;
-            let value = self.seen.constant(&mut self.made, &decl.value)?;
-            self.seen
-                .define(&mut self.made, decl.name, Meaning::Constant(value))?;
+            self.const_declared(decl)?;
         }
         Ok(())
     }
 
-    fn type_part(&mut self, decls: &[TypeDecl]) -> Result<(), Fault> {
+    #[tactic(auto, unfolding(crate::specs::Declarations::const_declared))]
+    fn const_declared(&mut self, decl: &ConstDecl) -> Result<(), Fault>
+        ensures value { Gives (λ u. sight self.new.seen) (const_declared (sight self.old.seen) decl.now) result }
+    {
+        self.seen.claim(&mut self.made, decl.name)?;
+        let value = self.seen.constant(&mut self.made, &decl.value)?;
+        self.seen
+            .define(&mut self.made, decl.name, Meaning::Constant(value))
+    }
+
+    fn type_part(&mut self, decls: &[TypeDecl]) -> Result<(), Fault>
+        ensures value { Gives (λ u. sight self.new.seen) (led_by type_declared (sight self.old.seen) decls.now) result }
+    {
         for decl in decls {
-            self.seen.claim(&mut self.made, decl.name)?;
-            let number = self.type_expr(&decl.of_type)?;
-            self.seen
-                .define(&mut self.made, decl.name, Meaning::Type(number))?;
+            self.type_declared(decl)?;
         }
         Ok(())
+    }
+
+    #[tactic(auto, unfolding(crate::specs::Declarations::type_declared))]
+    fn type_declared(&mut self, decl: &TypeDecl) -> Result<(), Fault>
+        ensures value { Gives (λ u. sight self.new.seen) (type_declared (sight self.old.seen) decl.now) result }
+    {
+        self.seen.claim(&mut self.made, decl.name)?;
+        let number = self.type_expr(&decl.of_type)?;
+        self.seen
+            .define(&mut self.made, decl.name, Meaning::Type(number))
     }
 
     fn var_part(&mut self, decls: &[VarDecl]) -> Result<(), Fault> {

@@ -49,13 +49,13 @@ fn checked(alloc: Global, text: &[u8], tree: &Tree) -> Result<Program, Fault>
     ensures constants { IfOk result (λ p. ConstantsDiffer p.routines) }
     ensures assertions { IfOk result (λ p. AssertsStand p.routines p.asserts) }
 {
-    let mut checker = Checker::new(alloc, text, tree).map_err(Fault::Memory)?;
+    let mut checker = Checker::new(alloc, text, tree)?;
     checker.program(tree)?;
     checker.into_program()
 }
 
 impl<'t> Checker<'t> {
-    fn new(alloc: Global, text: &'t [u8], tree: &Tree) -> Result<Checker<'t>, AllocError> {
+    fn new(alloc: Global, text: &'t [u8], tree: &Tree) -> Result<Checker<'t>, Fault> {
         let number = count_bodies(&tree.block);
         let frame = Frame::new(alloc, tree.name, number, None, 0, Items::new(alloc), None);
         let mut checker = Checker {
@@ -80,8 +80,8 @@ impl<'t> Checker<'t> {
                 lower: Vec::new(alloc),
             },
         };
-        let required = required(alloc, number)?;
-        checker.seen.scopes.push(required)?;
+        let required = required(alloc, number).map_err(Fault::Memory)?;
+        checker.push_scope(required)?;
         Ok(checker)
     }
 

@@ -1,6 +1,7 @@
 //! What the tests see where the walk stands, and what is made on the way.
 
 ghost use Rattle.std.specs.Prelude.{◌≡◌, IfErr, OnOk};
+ghost use Rattle.pas_check.specs.Declarations.{defined};
 ghost use Rattle.pas_check.specs.Expr.{claimed, meant};
 ghost use Rattle.pas_check.specs.Names as spec;
 ghost use Rattle.pas_check.specs.Outcome.{Gives, IsMemory};
@@ -12,7 +13,7 @@ use crate::frame::Frame;
 use crate::meaning::Meaning;
 use crate::names::{lower_case, spelling};
 use crate::routine::Head;
-use crate::scope::{Scope, denoted, innermost};
+use crate::scope::{Scope, denoted, end_innermost, innermost};
 use crate::types::Types;
 use indexmap::IndexMap;
 use pas_program::{Assert, Routine, VarDef, VarKind};
@@ -177,14 +178,16 @@ impl<'t> Seen<'t> {
     }
 
     /// Gives the name its meaning in the innermost block.
-    pub fn define(&mut self, made: &mut Made, span: Span, meaning: Meaning) -> Result<(), Fault> {
+    #[tactic(auto, unfolding(crate::specs::Declarations::defined, crate::specs::Sight::sight))]
+    pub fn define(&mut self, made: &mut Made, span: Span, meaning: Meaning) -> Result<(), Fault>
+        ensures defined { OnOk result (sight self.new ≡ defined (sight self.old) span meaning) }
+        ensures memory { IfErr result IsMemory }
+    {
         made.spell(self.text, span)?;
-        match self.scopes.last_mut() {
-            Some(scope) => scope
-                .names
-                .end(self.alloc, made.lower.as_slice(), span.start, meaning)
-                .map_err(Fault::Memory),
-            None => Ok(()),
+        let name = made.lower.as_slice();
+        match end_innermost(self.alloc, &mut self.scopes, name, span.start, meaning) {
+            Ok(()) => Ok(()),
+            Err(error) => Err(Fault::Memory(error)),
         }
     }
 }
