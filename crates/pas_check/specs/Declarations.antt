@@ -1,6 +1,6 @@
 -- The parts of a block that declare labels, constants, types and variables (ISO 7185, 6.2 to 6.5): what is seen after them, or the
 -- first rule that is broken.
-use Rattle.std.specs.Prelude.{ℕ, ℤ, Bool, List, [], ◌∷◌, ◌++◌, length, reverse, Option, Some, None, Ok, slice_get}
+use Rattle.std.specs.Prelude.{◌≡◌, ℕ, ℤ, Bool, List, [], ◌∷◌, ◌++◌, length, Option, Some, None, Ok, Err, slice_get}
 use Rattle.px_base.specs.declared.place.Span.{Span}
 use Rattle.pas_program.specs.declared.type_def.TypeDef.{TypeDef}
 use Rattle.pas_program.specs.declared.type_def.TypeDef.TheVariants.{Scalar, Array}
@@ -8,10 +8,12 @@ use Rattle.pas_program.specs.declared.variable.VarKind.TheVariants as kind
 use Rattle.pas_program.specs.Types.{count_values, layout}
 use Rattle.pas_tree.specs.declared.block.ConstDecl.{ConstDecl}
 use Rattle.pas_tree.specs.declared.block.TypeDecl.{TypeDecl}
+use Rattle.pas_tree.specs.declared.block.VarDecl.{VarDecl}
 use Rattle.pas_tree.specs.declared.constant.Constant.{Constant}
 use Rattle.pas_tree.specs.declared.type_expr.TypeExpr.{TypeExpr}
 use Rattle.pas_tree.specs.declared.type_expr.TypeExpr.TheOpen.{TypeExpr-F}
 use Rattle.pas_tree.specs.declared.type_expr.TypeExpr.TheFolds.{fold-TypeExpr}
+use Rattle.pas_check.specs.declared.fault.Fault.{Fault}
 use Rattle.pas_check.specs.declared.fault.Rule.TheVariants as rule
 use Rattle.pas_check.specs.declared.meaning.Meaning.{Meaning}
 use Rattle.pas_check.specs.declared.meaning.Meaning.TheVariants as means
@@ -126,3 +128,33 @@ type_declared v d = do
   done ← claimed v d.name
   r ← (type_test d.of_type).read v
   Ok (defined (with_types v r.1) d.name (means.Type r.0))
+
+-- ---- variables
+
+-- A variable has a number, by which no test knows it: any number will do. So of a part with variables it is said what it may answer,
+-- which is what is seen after it, or the fault of the first rule that it breaks.
+
+-- the parts of a list, one after the other
+pub data InTurn {A : Type 0} (May : Sight → A → Outcome Sight → Type 0) : Sight → List A → Outcome Sight → Type 0 where
+  ends : {v : Sight} → InTurn May v [] (Ok v)
+  stops : {v : Sight} {x : A} {rest : List A} {f : Fault} → May v x (Err f) → InTurn May v (x ∷ rest) (Err f)
+  goes : {v u : Sight} {x : A} {rest : List A} {o : Outcome Sight} → May v x (Ok u) → InTurn May u rest o → InTurn May v (x ∷ rest) o
+
+-- a name whose type is still to be read
+unfoldable pub name_claimed : Sight → Span → Outcome Sight
+name_claimed v name = do
+  done ← claimed v name
+  Ok (defined v name means.Untyped)
+
+-- a variable of the block, of a type
+abbrev pub local : Sight → ℕ → ℕ → Span → Sight
+local v t number name = defined v name (means.Variable (record { number = number; at = name.start; level = v.level; kind = kind.Local; of_type = t }))
+
+abbrev pub IsLocal : ℕ → Sight → Span → Outcome Sight → Type 0
+IsLocal t v name o = (number : ℕ) × (o ≡ Ok (local v t number name))
+
+-- a section of a variable part
+pub data VarMay (v : Sight) (d : VarDecl) : Outcome Sight → Type 0 where
+  in_names : {f : Fault} → led_by name_claimed v d.names ≡ Err f → VarMay v d (Err f)
+  in_type : {u : Sight} {f : Fault} → led_by name_claimed v d.names ≡ Ok u → (type_test d.of_type).read u ≡ Err f → VarMay v d (Err f)
+  declared : {u w : Sight} {r : Read} → led_by name_claimed v d.names ≡ Ok u → (type_test d.of_type).read u ≡ Ok r → InTurn (IsLocal r.0) (with_types u r.1) d.names (Ok w) → VarMay v d (Ok w)

@@ -38,6 +38,11 @@ abbrev pub IsMemory : Fault → Type 0
 IsMemory (Broken rule at) = ⊥
 IsMemory (Memory e) = Unit {0}
 
+-- the outcome is one that may be answered, with what is shown of it, unless memory runs out
+abbrev pub Meets : {A B : Type 0} → (A → B) → (Outcome B → Type 0) → Outcome A → Type 0
+Meets shown May (Ok a) = May (Ok (shown a))
+Meets shown May (Err e) = IsBroken e → May (Err e)
+
 -- the outcome is the defined one, by what is shown of it, unless memory runs out
 abbrev pub Gives : {A B : Type 0} → (A → B) → Outcome B → Outcome A → Type 0
 Gives shown defined (Ok a) = defined ≡ Ok (shown a)

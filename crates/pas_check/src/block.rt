@@ -1,8 +1,8 @@
 //! Blocks and their declarations (ISO 7185, 6.2).
 
-ghost use Rattle.std.specs.Prelude.{◌≡◌};
-ghost use Rattle.pas_check.specs.Declarations.{const_declared, led_by, type_declared};
-ghost use Rattle.pas_check.specs.Outcome.{Gives};
+ghost use Rattle.std.specs.Prelude.{◌≡◌, IfErr, Ok, OnOk};
+ghost use Rattle.pas_check.specs.Declarations.{InTurn, IsLocal, VarMay, const_declared, led_by, type_declared};
+ghost use Rattle.pas_check.specs.Outcome.{Gives, IsMemory, Meets};
 ghost use Rattle.pas_check.specs.Sight.{sight};
 
 use crate::checker::Checker;
@@ -116,19 +116,41 @@ impl<'t> Checker<'t> {
             .define(&mut self.made, decl.name, Meaning::Type(number))
     }
 
-    fn var_part(&mut self, decls: &[VarDecl]) -> Result<(), Fault> {
+    fn var_part(&mut self, decls: &[VarDecl]) -> Result<(), Fault>
+        ensures value { Meets (λ u. sight self.new.seen) (InTurn VarMay (sight self.old.seen) decls.now) result }
+    {
         for decl in decls {
-            self.claim_names(decl.names.as_slice())?;
-            let of_type = self.type_expr(&decl.of_type)?;
-            for name in decl.names.as_slice() {
-                self.variable(*name, of_type)?;
-            }
+            self.var_declared(decl)?;
+        }
+        Ok(())
+    }
+
+    /// The variables of a section.
+    fn var_declared(&mut self, decl: &VarDecl) -> Result<(), Fault>
+        ensures value { Meets (λ u. sight self.new.seen) (VarMay (sight self.old.seen) decl.now) result }
+    {
+        let names = decl.names.as_slice();
+        self.claim_names(names)?;
+        let of_type = self.type_expr(&decl.of_type)?;
+        self.locals(names, of_type)?;
+        Ok(())
+    }
+
+    fn locals(&mut self, names: &[Span], of_type: u32) -> Result<(), Fault>
+        ensures value { OnOk result (InTurn (IsLocal of_type) (sight self.old.seen) names.now (Ok (sight self.new.seen))) }
+        ensures memory { IfErr result IsMemory }
+    {
+        for name in names {
+            self.local(*name, of_type)?;
         }
         Ok(())
     }
 
     /// A variable of the block at hand.
-    fn variable(&mut self, name: Span, of_type: u32) -> Result<(), Fault> {
+    fn local(&mut self, name: Span, of_type: u32) -> Result<(), Fault>
+        ensures value { OnOk result (IsLocal of_type (sight self.old.seen) name (Ok (sight self.new.seen))) }
+        ensures memory { IfErr result IsMemory }
+    {
         let number = self.made.add_own(name, VarKind::Local, of_type)?;
         let variable = Variable {
             number,
@@ -138,7 +160,8 @@ impl<'t> Checker<'t> {
             of_type,
         };
         self.seen
-            .define(&mut self.made, name, Meaning::Variable(variable))
+            .define(&mut self.made, name, Meaning::Variable(variable))?;
+        Ok(())
     }
 
     #[cycle(block)]

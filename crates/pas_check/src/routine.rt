@@ -2,6 +2,7 @@
 
 ghost use Rattle.std.specs.Prelude.{◌≡◌, slice_get};
 ghost use Rattle.std.specs.Option.{option_map};
+ghost use Rattle.pas_check.specs.Declarations.{led_by, name_claimed};
 ghost use Rattle.pas_check.specs.Expr as spec;
 ghost use Rattle.pas_check.specs.Expr.{call_shown, callee_at, formals_at, result_inside};
 ghost use Rattle.pas_check.specs.Outcome.{Gives};
@@ -255,12 +256,21 @@ impl<'t> Checker<'t> {
     }
 
     /// Declares names whose type is still to be read.
-    pub fn claim_names(&mut self, names: &[Span]) -> Result<(), Fault> {
+    pub fn claim_names(&mut self, names: &[Span]) -> Result<(), Fault>
+        ensures value { Gives (λ u. sight self.new.seen) (led_by name_claimed (sight self.old.seen) names.now) result }
+    {
         for name in names {
-            self.seen.claim(&mut self.made, *name)?;
-            self.seen.define(&mut self.made, *name, Meaning::Untyped)?;
+            self.claim_name(*name)?;
         }
         Ok(())
+    }
+
+    #[tactic(auto, unfolding(crate::specs::Declarations::name_claimed))]
+    fn claim_name(&mut self, name: Span) -> Result<(), Fault>
+        ensures value { Gives (λ u. sight self.new.seen) (name_claimed (sight self.old.seen) name) result }
+    {
+        self.seen.claim(&mut self.made, name)?;
+        self.seen.define(&mut self.made, name, Meaning::Untyped)
     }
 
     fn formal_declared(
