@@ -3,6 +3,7 @@ pub mod Declarations
 pub mod Declared
 pub mod Found
 pub mod Loops
+pub mod Noted
 pub mod Passing
 pub mod Scopes
 pub mod Statements

@@ -1,3 +1,4 @@
+pub mod Block
 pub mod Constant
 pub mod Control
 pub mod Declarations

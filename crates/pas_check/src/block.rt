@@ -22,7 +22,8 @@ impl<'t> Checker<'t> {
     /// The program's block.
     pub fn program(&mut self, tree: &Tree) -> Result<(), Fault> {
         let mut scope = Scope::new(self.seen.alloc, self.made.frame.routine);
-        self.note_block(&mut scope, &tree.block)?;
+        self.seen
+            .note_block(&mut self.made, &mut scope, &tree.block)?;
         self.push_scope(scope)?;
         let body = self.block(&tree.block, None)?;
         let empty = Frame::new(

@@ -17,7 +17,7 @@ use crate::frame::Frame;
 use crate::meaning::{Meaning, Variable};
 use crate::plan::Plan;
 use crate::scope::Scope;
-use crate::seen::Seen;
+use crate::seen::{Made, Seen};
 use pas_program::VarKind;
 use pas_tree::{Block, Routine, RoutineBody, Section};
 use px_base::Span;
@@ -143,6 +143,18 @@ impl<'t> Seen<'t> {
         at(head.formals.as_slice(), place).copied()
     }
 
+    /// The type of a function's result, which is a scalar.
+    #[tactic(auto, unfolding(crate::specs::Routine::result_type, crate::specs::Sight::sight))]
+    fn result_type(&self, made: &mut Made, of_type: Span) -> Result<u32, Fault>
+        ensures value { Gives (λ t. t) (allowed.result_type (sight self.now) of_type) result }
+    {
+        let number = self.named_type(made, of_type)?;
+        if self.types.host(number).is_none() {
+            return Err(Rule::Type.broken(of_type.start));
+        }
+        Ok(number)
+    }
+
     /// The result of a function, inside its block.
     #[tactic(auto, unfolding(crate::specs::Sight::sight))]
     pub fn result_of(&self, head: usize) -> Option<Variable>
@@ -204,9 +216,10 @@ impl<'t> Checker<'t> {
         self.seen
             .define(&mut self.made, name, Meaning::Routine { head, function })?;
         let mut scope = Scope::new(self.seen.alloc, number);
-        self.note_formals(&mut scope, routine.formals.as_slice())?;
+        self.seen
+            .note_formals(&mut self.made, &mut scope, routine.formals.as_slice())?;
         if let Some(block) = block {
-            self.note_block(&mut scope, block)?;
+            self.seen.note_block(&mut self.made, &mut scope, block)?;
         }
         let mut made = Head {
             name,
@@ -297,7 +310,7 @@ impl<'t> Checker<'t> {
 
     /// The variable for the result of a function, whose type is a scalar.
     fn result(&mut self, name: Span, routine: u32, of_type: Span) -> Result<Variable, Fault> {
-        let of_type = self.result_type(of_type)?;
+        let of_type = self.seen.result_type(&mut self.made, of_type)?;
         let kind = VarKind::Result;
         let number = self.made.add_variable(name, routine, kind, of_type)?;
         Ok(Variable {
@@ -307,14 +320,6 @@ impl<'t> Checker<'t> {
             kind,
             of_type,
         })
-    }
-
-    fn result_type(&mut self, of_type: Span) -> Result<u32, Fault> {
-        let number = self.seen.named_type(&mut self.made, of_type)?;
-        if self.seen.types.host(number).is_none() {
-            return Err(Rule::Type.broken(of_type.start));
-        }
-        Ok(number)
     }
 
     /// A heading with the word `forward` in place of a block.
