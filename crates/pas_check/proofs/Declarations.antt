@@ -69,9 +69,9 @@ module _ (v : Sight) (indexes : List TypeExpr) (k : ℕ) (x : TypeExpr) (h : k <
 
 -- ---- parts that may answer in several ways
 
-module _ {A : Type 0} (May : Sight → A → Outcome Sight → Type 0) (xs : List A) (k : ℕ) (v : Sight) where
+module _ {S A : Type 0} (May : S → A → Outcome S → Type 0) (xs : List A) (k : ℕ) (v : S) where
   -- the part at hand leads on
-  pub may_go : (x : A) (u : Sight) (o : Outcome Sight) → k < length xs → x ≡ get_or xs k x → May v x (Ok u) → InTurn May u (drop (k + 1) xs) o → InTurn May v (drop k xs) o
+  pub may_go : (x : A) (u : S) (o : Outcome S) → k < length xs → x ≡ get_or xs k x → May v x (Ok u) → InTurn May u (drop (k + 1) xs) o → InTurn May v (drop k xs) o
   may_go x u o h e now rest = subst (λ ys. InTurn May v ys o) (sym (drop_next xs k x h e)) (goes now rest)
 
   -- it breaks a rule

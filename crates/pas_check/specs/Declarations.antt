@@ -134,11 +134,11 @@ type_declared v d = do
 -- A variable has a number, by which no test knows it: any number will do. So of a part with variables it is said what it may answer,
 -- which is what is seen after it, or the fault of the first rule that it breaks.
 
--- the parts of a list, one after the other
-pub data InTurn {A : Type 0} (May : Sight → A → Outcome Sight → Type 0) : Sight → List A → Outcome Sight → Type 0 where
-  ends : {v : Sight} → InTurn May v [] (Ok v)
-  stops : {v : Sight} {x : A} {rest : List A} {f : Fault} → May v x (Err f) → InTurn May v (x ∷ rest) (Err f)
-  goes : {v u : Sight} {x : A} {rest : List A} {o : Outcome Sight} → May v x (Ok u) → InTurn May u rest o → InTurn May v (x ∷ rest) o
+-- the parts of a list, one after the other, by what stands before each of them
+pub data InTurn {S A : Type 0} (May : S → A → Outcome S → Type 0) : S → List A → Outcome S → Type 0 where
+  ends : {v : S} → InTurn May v [] (Ok v)
+  stops : {v : S} {x : A} {rest : List A} {f : Fault} → May v x (Err f) → InTurn May v (x ∷ rest) (Err f)
+  goes : {v u : S} {x : A} {rest : List A} {o : Outcome S} → May v x (Ok u) → InTurn May u rest o → InTurn May v (x ∷ rest) o
 
 -- a name whose type is still to be read
 unfoldable pub name_claimed : Sight → Span → Outcome Sight

@@ -5,6 +5,7 @@ pub mod Declarations
 pub mod Expr
 pub mod Fault
 pub mod FirstFault
+pub mod Formals
 pub mod Labels
 pub mod Names
 pub mod Outcome

@@ -1,11 +1,13 @@
 //! Procedures and functions (ISO 7185, 6.6.1 and 6.6.2).
 
-ghost use Rattle.std.specs.Prelude.{◌≡◌, slice_get};
+ghost use Rattle.std.specs.Prelude.{◌≡◌, ◌∷◌, ◌++◌, [], IfErr, Ok, OnOk, slice_get};
 ghost use Rattle.std.specs.Option.{option_map};
-ghost use Rattle.pas_check.specs.Declarations.{led_by, name_claimed};
+ghost use Rattle.pas_check.specs.Declarations.{InTurn, led_by, name_claimed};
 ghost use Rattle.pas_check.specs.Expr as spec;
 ghost use Rattle.pas_check.specs.Expr.{call_shown, callee_at, formals_at, result_inside};
-ghost use Rattle.pas_check.specs.Outcome.{Gives};
+ghost use Rattle.pas_check.specs.Formals as formal;
+ghost use Rattle.pas_check.specs.Formals.{IsFormal, SectionMay};
+ghost use Rattle.pas_check.specs.Outcome.{Gives, IsMemory, Meets};
 ghost use Rattle.pas_check.specs.Routine as allowed;
 ghost use Rattle.pas_check.specs.Sight.{sight};
 ghost use Rattle.pas_tree.specs.declared.block.RoutineBody.TheViews.{out-Routine};
@@ -67,6 +69,42 @@ impl Head {
     }
 }
 
+/// Whose formals and result are declared: a routine, and how many are around what it declares.
+#[derive(Clone, Copy, Debug, PartialEq, Eq)]
+struct Owner {
+    routine: u32,
+    level: u32,
+}
+
+/// The formals of a routine, and the numbers of their variables.
+#[derive(Drop)]
+struct Formals {
+    list: Vec<Formal>,
+    numbers: Items<u32>,
+}
+
+impl Formals {
+    fn add(&mut self, formal: Formal, number: u32) -> Result<(), Fault>
+        ensures list { OnOk result (self.new.list.items ≡ self.old.list.items ++ formal ∷ []) }
+        ensures memory { IfErr result IsMemory }
+    {
+        if self.numbers.push(number).is_err() {
+            return Err(Fault::Memory(AllocError));
+        }
+        match push_formal(&mut self.list, formal) {
+            Ok(()) => Ok(()),
+            Err(error) => Err(Fault::Memory(error)),
+        }
+    }
+}
+
+/// What a formal is as a variable.
+fn kind_of(by_var: bool) -> VarKind
+    ensures { result ≡ formal.kind_of by_var }
+{
+    if by_var { VarKind::Var } else { VarKind::Value }
+}
+
 /// What a call needs of a routine.
 #[derive(Clone, Copy, Debug, PartialEq, Eq)]
 pub struct Callee {
@@ -81,7 +119,9 @@ fn push_head(heads: &mut Vec<Head>, head: Head) -> Result<(), AllocError> {
     Ok(())
 }
 
-fn push_formal(formals: &mut Vec<Formal>, formal: Formal) -> Result<(), AllocError> {
+fn push_formal(formals: &mut Vec<Formal>, formal: Formal) -> Result<(), AllocError>
+    ensures { OnOk result (formals.new.items ≡ formals.old.items ++ formal ∷ []) }
+{
     formals.push(formal)?;
     Ok(())
 }
@@ -221,23 +261,27 @@ impl<'t> Checker<'t> {
         if let Some(block) = block {
             self.seen.note_block(&mut self.made, &mut scope, block)?;
         }
-        let mut made = Head {
-            name,
+        let owner = Owner {
             routine: number,
             level: self.seen.level.saturating_add(1),
-            formals: Vec::new(self.seen.alloc),
-            numbers: Items::new(self.seen.alloc),
-            result: None,
+        };
+        self.push_scope(scope)?;
+        let formals = self.formals(owner, routine.formals.as_slice())?;
+        let scope = self.pop_scope(number);
+        let made = Head {
+            name,
+            routine: number,
+            level: owner.level,
+            formals: formals.list,
+            numbers: formals.numbers,
+            result: match routine.result {
+                Some(of_type) => Some(self.result(owner, name, of_type)?),
+                None => None,
+            },
             waiting: None,
             has_body: false,
             inside: false,
         };
-        self.push_scope(scope)?;
-        self.formals(&mut made, routine.formals.as_slice())?;
-        let scope = self.pop_scope(number);
-        if let Some(of_type) = routine.result {
-            made.result = Some(self.result(name, number, of_type)?);
-        }
         push_head(&mut self.seen.heads, made).map_err(Fault::Memory)?;
         Ok((head, scope))
     }
@@ -257,13 +301,51 @@ impl<'t> Checker<'t> {
         }
     }
 
-    fn formals(&mut self, head: &mut Head, sections: &[Section]) -> Result<(), Fault> {
+    /// The formals of a routine.
+    fn formals(&mut self, owner: Owner, sections: &[Section]) -> Result<Formals, Fault>
+        ensures value { Meets (λ f. (sight self.new.seen, f.list.items)) (InTurn (SectionMay owner.level) (sight self.old.seen, []) sections.now) result }
+    {
+        let mut formals = Formals {
+            list: Vec::new(self.seen.alloc),
+            numbers: Items::new(self.seen.alloc),
+        };
         for section in sections {
-            self.claim_names(section.names.as_slice())?;
-            let of_type = self.seen.named_type(&mut self.made, section.of_type)?;
-            for name in section.names.as_slice() {
-                self.formal_declared(head, *name, section.by_var, of_type)?;
-            }
+            self.section_declared(owner, section, &mut formals)?;
+        }
+        Ok(formals)
+    }
+
+    fn section_declared(
+        &mut self,
+        owner: Owner,
+        section: &Section,
+        formals: &mut Formals,
+    ) -> Result<(), Fault>
+        ensures value { Meets (λ u. (sight self.new.seen, formals.new.list.items)) (SectionMay owner.level (sight self.old.seen, formals.old.list.items) section.now) result }
+    {
+        let names = section.names.as_slice();
+        self.claim_names(names)?;
+        let of_type = self.seen.named_type(&mut self.made, section.of_type)?;
+        let formal = Formal {
+            by_var: section.by_var,
+            of_type,
+        };
+        self.formals_declared(owner, names, formal, formals)?;
+        Ok(())
+    }
+
+    fn formals_declared(
+        &mut self,
+        owner: Owner,
+        names: &[Span],
+        formal: Formal,
+        formals: &mut Formals,
+    ) -> Result<(), Fault>
+        ensures value { OnOk result (InTurn (IsFormal owner.level formal) (sight self.old.seen, formals.old.list.items) names.now (Ok (sight self.new.seen, formals.new.list.items))) }
+        ensures memory { IfErr result IsMemory }
+    {
+        for name in names {
+            self.formal_declared(owner, *name, formal, formals)?;
         }
         Ok(())
     }
@@ -288,35 +370,43 @@ impl<'t> Checker<'t> {
 
     fn formal_declared(
         &mut self,
-        head: &mut Head,
+        owner: Owner,
         name: Span,
-        by_var: bool,
-        of_type: u32,
-    ) -> Result<(), Fault> {
-        let kind = if by_var { VarKind::Var } else { VarKind::Value };
-        let number = self.made.add_variable(name, head.routine, kind, of_type)?;
+        formal: Formal,
+        formals: &mut Formals,
+    ) -> Result<(), Fault>
+        ensures value { OnOk result (IsFormal owner.level formal (sight self.old.seen, formals.old.list.items) name (Ok (sight self.new.seen, formals.new.list.items))) }
+        ensures memory { IfErr result IsMemory }
+    {
+        let Formal { by_var, of_type } = formal;
+        let kind = kind_of(by_var);
+        let number = self
+            .made
+            .add_variable(name, owner.routine, kind, of_type)?;
         let variable = Variable {
             number,
             at: name.start,
-            level: head.level,
+            level: owner.level,
             kind,
             of_type,
         };
         self.seen
             .define(&mut self.made, name, Meaning::Variable(variable))?;
-        head.numbers.push(number).map_err(Fault::Memory)?;
-        push_formal(&mut head.formals, Formal { by_var, of_type }).map_err(Fault::Memory)
+        formals.add(formal, number)?;
+        Ok(())
     }
 
     /// The variable for the result of a function, whose type is a scalar.
-    fn result(&mut self, name: Span, routine: u32, of_type: Span) -> Result<Variable, Fault> {
+    fn result(&mut self, owner: Owner, name: Span, of_type: Span) -> Result<Variable, Fault> {
         let of_type = self.seen.result_type(&mut self.made, of_type)?;
         let kind = VarKind::Result;
-        let number = self.made.add_variable(name, routine, kind, of_type)?;
+        let number = self
+            .made
+            .add_variable(name, owner.routine, kind, of_type)?;
         Ok(Variable {
             number,
             at: name.start,
-            level: self.seen.level.saturating_add(1),
+            level: owner.level,
             kind,
             of_type,
         })
