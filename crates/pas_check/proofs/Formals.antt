@@ -15,10 +15,11 @@ use Rattle.pas_check.specs.TypeExpr.{named_type}
 -- a formal with its number
 pub formal_is : (level : ℕ) (formal : Formal) (number : ℕ) (s : Formed) (name : Span) (w : Sight) (list : List Formal) (k : VarKind) → k ≡ kind_of formal.by_var
     → w ≡ defined s.0 name (means.Variable (record { number = number; at = name.start; level = level; kind = k; of_type = formal.of_type })) → list ≡ s.1 ++ formal ∷ [] → IsFormal level formal s name (Ok (w, list))
-formal_is level formal number s name w list k same is more =
-    (number,
-     ap (λ (p : Formed). Ok p) (ap (λ (x : Sight). (x, list)) (is ∙ ap (λ (q : VarKind). defined s.0 name (means.Variable (record { number = number; at = name.start; level = level; kind = q; of_type = formal.of_type }))) same)
-     ∙ ap (λ (l : List Formal). ((formed level formal number s name).0, l)) more))
+formal_is level formal number s name w list k same is more = (
+  number,
+  ap (λ (p : Formed). Ok p) (ap (λ (x : Sight). (x, list)) (is ∙ ap (λ (q : VarKind). defined s.0 name (means.Variable (record { number = number; at = name.start; level = level; kind = q; of_type = formal.of_type }))) same)
+      ∙ ap (λ (l : List Formal). ((formed level formal number s name).0, l)) more),
+)
 
 module _ (level : ℕ) (s : Formed) (d : Section) (names : List Span) (same : names ≡ d.names) where
   pub in_names_of : (f : Fault) → led_by name_claimed s.0 names ≡ Err f → SectionMay level s d (Err f)

@@ -401,13 +401,7 @@ impl<'t> Seen<'t> {
         }
         let slot = made.add_own(name, VarKind::Slot, callee.result)?;
         let actuals = self.actuals(made, head, actuals)?;
-        Ok(self.called(
-            callee.routine,
-            actuals,
-            slot,
-            callee.result,
-            name.start,
-        ))
+        Ok(self.called(callee.routine, actuals, slot, callee.result, name.start))
     }
 
     /// The value of a call.

@@ -137,12 +137,7 @@ impl<'t> Seen<'t> {
         Ok(())
     }
 
-    fn note_vars(
-        &self,
-        made: &mut Made,
-        scope: &mut Scope,
-        decls: &[VarDecl],
-    ) -> Result<(), Fault>
+    fn note_vars(&self, made: &mut Made, scope: &mut Scope, decls: &[VarDecl]) -> Result<(), Fault>
         ensures names { OnOk result (scope.new.names ≡ noted_all self.now.text.now (flat_map var_names decls.now) scope.old.names) }
         ensures memory { IfErr result IsMemory }
     {
@@ -183,12 +178,7 @@ impl<'t> Seen<'t> {
         Ok(())
     }
 
-    fn note_names(
-        &self,
-        made: &mut Made,
-        scope: &mut Scope,
-        names: &[Span],
-    ) -> Result<(), Fault>
+    fn note_names(&self, made: &mut Made, scope: &mut Scope, names: &[Span]) -> Result<(), Fault>
         ensures names { OnOk result (scope.new.names ≡ noted_all self.now.text.now names.now scope.old.names) }
         ensures memory { IfErr result IsMemory }
     {

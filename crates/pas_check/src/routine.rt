@@ -380,9 +380,7 @@ impl<'t> Checker<'t> {
     {
         let Formal { by_var, of_type } = formal;
         let kind = kind_of(by_var);
-        let number = self
-            .made
-            .add_variable(name, owner.routine, kind, of_type)?;
+        let number = self.made.add_variable(name, owner.routine, kind, of_type)?;
         let variable = Variable {
             number,
             at: name.start,
@@ -400,9 +398,7 @@ impl<'t> Checker<'t> {
     fn result(&mut self, owner: Owner, name: Span, of_type: Span) -> Result<Variable, Fault> {
         let of_type = self.seen.result_type(&mut self.made, of_type)?;
         let kind = VarKind::Result;
-        let number = self
-            .made
-            .add_variable(name, owner.routine, kind, of_type)?;
+        let number = self.made.add_variable(name, owner.routine, kind, of_type)?;
         Ok(Variable {
             number,
             at: name.start,

@@ -6,6 +6,6 @@ use Rattle.pas_check.proofs.checker.Checker.assertions.Given as goal
 
 abbrev pub invariant-loop-assertion : goal.invariant-loop-assertion
 invariant-loop-assertion l = record {
-    kept : sight l.self.seen ≡ sight l.fn.self.seen;
-    rest : each (asserted (sight l.fn.self.seen)) l.assertions ≡ each (asserted (sight l.fn.self.seen)) (drop l.assertion-index l.assertions);
+  kept : sight l.self.seen ≡ sight l.fn.self.seen;
+  rest : each (asserted (sight l.fn.self.seen)) l.assertions ≡ each (asserted (sight l.fn.self.seen)) (drop l.assertion-index l.assertions);
 }

@@ -7,9 +7,9 @@ use Rattle.pas_check.proofs.checker.Checker.formals.Goals as goal
 
 pub returns-in_err-section_declared : goal.returns-in_err-section_declared
 returns-in_err-section_declared c = record {
-    value = meets_wrong {B = Formed} _ (InTurn (SectionMay c.args.owner.level) (sight c.args.self.now.seen, []) c.args.sections.now) c.from_residual.result c.in_err-section_declared.field-0.0 (search rules) (λ own.
-        c.loop-section.invariant (Err c.in_err-section_declared.field-0.0) (may_stop (SectionMay c.args.owner.level) c.args.sections.now c.loop-section.section-index (sight c.loop-section.self.seen, c.loop-section.formals.list.items) c.section-item.result c.in_err-section_declared.field-0.0 c.loop-section-test.true c.section-item.is (c.in_err-section_declared.ensures.value own)));
-  }
+  value = meets_wrong {B = Formed} _ (InTurn (SectionMay c.args.owner.level) (sight c.args.self.now.seen, []) c.args.sections.now) c.from_residual.result c.in_err-section_declared.field-0.0 (search rules) (λ own.
+      c.loop-section.invariant (Err c.in_err-section_declared.field-0.0) (may_stop (SectionMay c.args.owner.level) c.args.sections.now c.loop-section.section-index (sight c.loop-section.self.seen, c.loop-section.formals.list.items) c.section-item.result c.in_err-section_declared.field-0.0 c.loop-section-test.true c.section-item.is (c.in_err-section_declared.ensures.value own)));
+}
 
 pub loop-section-preserved : goal.loop-section-preserved
 loop-section-preserved c = λ o rest.
