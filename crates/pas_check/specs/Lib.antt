@@ -6,6 +6,7 @@ pub mod Expr
 pub mod Fault
 pub mod FirstFault
 pub mod Formals
+pub mod Headings
 pub mod Labels
 pub mod Names
 pub mod Outcome

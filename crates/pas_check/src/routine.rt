@@ -1,7 +1,7 @@
 //! Procedures and functions (ISO 7185, 6.6.1 and 6.6.2).
 
-ghost use Rattle.std.specs.Prelude.{◌≡◌, ◌∷◌, ◌++◌, [], IfErr, Ok, OnOk, slice_get};
-ghost use Rattle.std.specs.Option.{option_map};
+ghost use Rattle.std.specs.Prelude.{◌≡◌, ◌∷◌, ◌++◌, [], IfErr, IfOk, IfSome, Ok, OnOk, slice_get};
+ghost use Rattle.std.specs.Option.{option_copied, option_map};
 ghost use Rattle.pas_check.specs.Declarations.{InTurn, led_by, name_claimed};
 ghost use Rattle.pas_check.specs.Expr as spec;
 ghost use Rattle.pas_check.specs.Expr.{call_shown, callee_at, formals_at, result_inside};
@@ -9,7 +9,9 @@ ghost use Rattle.pas_check.specs.Formals as formal;
 ghost use Rattle.pas_check.specs.Formals.{IsFormal, SectionMay};
 ghost use Rattle.pas_check.specs.Outcome.{Gives, IsMemory, Meets};
 ghost use Rattle.pas_check.specs.Routine as allowed;
-ghost use Rattle.pas_check.specs.Sight.{sight};
+ghost use Rattle.pas_check.specs.Headings.{begun, inside, outside, own_names, result_of, result_read};
+ghost use Rattle.pas_check.specs.Labels.{labelled};
+ghost use Rattle.pas_check.specs.Sight.{innermost, sight};
 ghost use Rattle.pas_tree.specs.declared.block.RoutineBody.TheViews.{out-Routine};
 
 use crate::actual::Formal;
@@ -183,6 +185,26 @@ impl<'t> Seen<'t> {
         at(head.formals.as_slice(), place).copied()
     }
 
+    /// The names of a routine's own block: its formals, and what the block declares.
+    #[tactic(auto, unfolding(crate::specs::Sight::sight))]
+    fn own_scope(
+        &self,
+        made: &mut Made,
+        owner: Owner,
+        routine: &Routine,
+        block: Option<&Block>,
+    ) -> Result<Scope, Fault>
+        ensures names { IfOk result (λ s. s.names ≡ own_names (sight self.now) routine.now (option_copied block.entry)) }
+        ensures memory { IfErr result IsMemory }
+    {
+        let mut scope = Scope::new(self.alloc, owner.routine);
+        self.note_formals(made, &mut scope, routine.formals.as_slice())?;
+        if let Some(block) = block {
+            self.note_block(made, &mut scope, block)?;
+        }
+        Ok(scope)
+    }
+
     /// The type of a function's result, which is a scalar.
     #[tactic(auto, unfolding(crate::specs::Routine::result_type, crate::specs::Sight::sight))]
     fn result_type(&self, made: &mut Made, of_type: Span) -> Result<u32, Fault>
@@ -248,36 +270,22 @@ impl<'t> Checker<'t> {
         number: u32,
         block: Option<&Block>,
     ) -> Result<(usize, Scope), Fault> {
-        let name = routine.name;
-        self.seen.claim(&mut self.made, name)?;
-        heading_allowed(routine, self.seen.level)?;
-        let head = self.seen.heads.len();
-        let function = routine.function;
-        self.seen
-            .define(&mut self.made, name, Meaning::Routine { head, function })?;
-        let mut scope = Scope::new(self.seen.alloc, number);
-        self.seen
-            .note_formals(&mut self.made, &mut scope, routine.formals.as_slice())?;
-        if let Some(block) = block {
-            self.seen.note_block(&mut self.made, &mut scope, block)?;
-        }
+        let head = self.begun(routine)?;
         let owner = Owner {
             routine: number,
             level: self.seen.level.saturating_add(1),
         };
+        let scope = self.seen.own_scope(&mut self.made, owner, routine, block)?;
         self.push_scope(scope)?;
         let formals = self.formals(owner, routine.formals.as_slice())?;
         let scope = self.pop_scope(number);
         let made = Head {
-            name,
+            name: routine.name,
             routine: number,
             level: owner.level,
             formals: formals.list,
             numbers: formals.numbers,
-            result: match routine.result {
-                Some(of_type) => Some(self.result(owner, name, of_type)?),
-                None => None,
-            },
+            result: self.result(owner, routine.name, routine.result)?,
             waiting: None,
             has_body: false,
             inside: false,
@@ -286,7 +294,27 @@ impl<'t> Checker<'t> {
         Ok((head, scope))
     }
 
-    pub fn push_scope(&mut self, scope: Scope) -> Result<(), Fault> {
+    /// A heading that declares its name: its place among the headings.
+    #[tactic(auto, unfolding(crate::specs::Headings::begun, crate::specs::Sight::sight))]
+    fn begun(&mut self, routine: &Routine) -> Result<usize, Fault>
+        ensures value { Gives (λ h. sight self.new.seen) (begun (sight self.old.seen) routine.now) result }
+    {
+        let name = routine.name;
+        self.seen.claim(&mut self.made, name)?;
+        heading_allowed(routine, self.seen.level)?;
+        let head = self.seen.heads.len();
+        let function = routine.function;
+        self.seen
+            .define(&mut self.made, name, Meaning::Routine { head, function })?;
+        Ok(head)
+    }
+
+    /// A block inside the one at hand.
+    #[tactic(auto, unfolding(crate::specs::Sight::sight))]
+    pub fn push_scope(&mut self, scope: Scope) -> Result<(), Fault>
+        ensures inside { OnOk result (sight self.new.seen ≡ inside (sight self.old.seen) scope.names (labelled scope)) }
+        ensures memory { IfErr result IsMemory }
+    {
         match self.seen.scopes.push(scope) {
             Ok(()) => Ok(()),
             Err(_) => Err(Fault::Memory(AllocError)),
@@ -294,7 +322,11 @@ impl<'t> Checker<'t> {
     }
 
     /// The innermost block's names, which are taken off.
-    pub fn pop_scope(&mut self, number: u32) -> Scope {
+    #[tactic(auto, unfolding(crate::specs::Sight::sight))]
+    pub fn pop_scope(&mut self, number: u32) -> Scope
+        ensures names { result.names ≡ innermost (sight self.old.seen).blocks }
+        ensures outside { sight self.new.seen ≡ outside (sight self.old.seen) }
+    {
         match self.seen.scopes.pop() {
             Some(scope) => scope,
             None => Scope::new(self.seen.alloc, number),
@@ -395,17 +427,30 @@ impl<'t> Checker<'t> {
     }
 
     /// The variable for the result of a function, whose type is a scalar.
-    fn result(&mut self, owner: Owner, name: Span, of_type: Span) -> Result<Variable, Fault> {
+    #[tactic(auto, unfolding(crate::specs::Headings::result_read))]
+    fn result(
+        &mut self,
+        owner: Owner,
+        name: Span,
+        of_type: Option<Span>,
+    ) -> Result<Option<Variable>, Fault>
+        ensures value { Gives (λ x. option_map (λ y. y.of_type) x) (result_read (sight self.old.seen) of_type) result }
+        ensures variable { IfOk result (λ x. IfSome x (λ y. y ≡ result_of owner.level name y.number y.of_type)) }
+        ensures kept { self.new.seen ≡ self.old.seen }
+    {
+        let Some(of_type) = of_type else {
+            return Ok(None);
+        };
         let of_type = self.seen.result_type(&mut self.made, of_type)?;
         let kind = VarKind::Result;
         let number = self.made.add_variable(name, owner.routine, kind, of_type)?;
-        Ok(Variable {
+        Ok(Some(Variable {
             number,
             at: name.start,
             level: owner.level,
             kind,
             of_type,
-        })
+        }))
     }
 
     /// A heading with the word `forward` in place of a block.
