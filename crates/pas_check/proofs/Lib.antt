@@ -3,6 +3,7 @@ pub mod Declarations
 pub mod Declared
 pub mod Formals
 pub mod Found
+pub mod Headings
 pub mod Loops
 pub mod Noted
 pub mod Passing

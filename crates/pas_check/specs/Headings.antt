@@ -66,9 +66,9 @@ headed v h = record v { headings = v.headings ++ h ∷ [] }
 
 pub data HeadingMay (v : Sight) (r : Routine) (later : Option Block) : Outcome (Sight × Names) → Type 0 where
   not_begun : {f : Fault} → begun v r ≡ Err f → HeadingMay v r later (Err f)
-  in_formals : {u : Sight} {f : Fault} (l : Labelled) → begun v r ≡ Ok u → InTurn (SectionMay (v.level + 1)) (inside u (own_names v r later) l, []) (out-Routine r).formals (Err f) → HeadingMay v r later (Err f)
-  in_result : {u : Sight} {s : Formed} {f : Fault} (l : Labelled) → begun v r ≡ Ok u → InTurn (SectionMay (v.level + 1)) (inside u (own_names v r later) l, []) (out-Routine r).formals (Ok s)
+  in_formals : {u : Sight} {f : Fault} (l : Labelled) → begun v r ≡ Ok u → InTurn (SectionMay (v.level + 1)) (inside u (own_names u r later) l, []) (out-Routine r).formals (Err f) → HeadingMay v r later (Err f)
+  in_result : {u : Sight} {s : Formed} {f : Fault} (l : Labelled) → begun v r ≡ Ok u → InTurn (SectionMay (v.level + 1)) (inside u (own_names u r later) l, []) (out-Routine r).formals (Ok s)
       → result_read (outside s.0) (out-Routine r).result ≡ Err f → HeadingMay v r later (Err f)
-  whole : {u : Sight} {s : Formed} {t : Option ℕ} (l : Labelled) (number : ℕ) → begun v r ≡ Ok u → InTurn (SectionMay (v.level + 1)) (inside u (own_names v r later) l, []) (out-Routine r).formals (Ok s)
+  whole : {u : Sight} {s : Formed} {t : Option ℕ} (l : Labelled) (number : ℕ) → begun v r ≡ Ok u → InTurn (SectionMay (v.level + 1)) (inside u (own_names u r later) l, []) (out-Routine r).formals (Ok s)
       → result_read (outside s.0) (out-Routine r).result ≡ Ok t
       → HeadingMay v r later (Ok (headed (outside s.0) (record { formals = s.1; result = option_map (result_of (v.level + 1) (out-Routine r).name number) t; inside = false }), innermost s.0.blocks))

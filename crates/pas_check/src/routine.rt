@@ -1,6 +1,6 @@
 //! Procedures and functions (ISO 7185, 6.6.1 and 6.6.2).
 
-ghost use Rattle.std.specs.Prelude.{◌≡◌, ◌∷◌, ◌++◌, [], IfErr, IfOk, IfSome, Ok, OnOk, slice_get};
+ghost use Rattle.std.specs.Prelude.{◌≡◌, ◌+◌, ◌<◌, ◌∷◌, ◌++◌, [], IfErr, IfOk, IfSome, Ok, OnOk, slice_get};
 ghost use Rattle.std.specs.Option.{option_copied, option_map};
 ghost use Rattle.pas_check.specs.Declarations.{InTurn, led_by, name_claimed};
 ghost use Rattle.pas_check.specs.Expr as spec;
@@ -9,9 +9,9 @@ ghost use Rattle.pas_check.specs.Formals as formal;
 ghost use Rattle.pas_check.specs.Formals.{IsFormal, SectionMay};
 ghost use Rattle.pas_check.specs.Outcome.{Gives, IsMemory, Meets};
 ghost use Rattle.pas_check.specs.Routine as allowed;
-ghost use Rattle.pas_check.specs.Headings.{begun, inside, outside, own_names, result_of, result_read};
+ghost use Rattle.pas_check.specs.Headings.{HeadingMay, begun, headed, inside, outside, own_names, result_of, result_read};
 ghost use Rattle.pas_check.specs.Labels.{labelled};
-ghost use Rattle.pas_check.specs.Sight.{innermost, sight};
+ghost use Rattle.pas_check.specs.Sight.{heading_of, innermost, sight};
 ghost use Rattle.pas_tree.specs.declared.block.RoutineBody.TheViews.{out-Routine};
 
 use crate::actual::Formal;
@@ -78,6 +78,13 @@ struct Owner {
     level: u32,
 }
 
+/// A routine whose name is declared: its place among the headings, and how many routines are around what it declares.
+#[derive(Clone, Copy, Debug, PartialEq, Eq)]
+struct Begun {
+    head: usize,
+    level: u32,
+}
+
 /// The formals of a routine, and the numbers of their variables.
 #[derive(Drop)]
 struct Formals {
@@ -116,7 +123,9 @@ pub struct Callee {
     pub result: u32,
 }
 
-fn push_head(heads: &mut Vec<Head>, head: Head) -> Result<(), AllocError> {
+fn push_head(heads: &mut Vec<Head>, head: Head) -> Result<(), AllocError>
+    ensures { OnOk result (heads.new.items ≡ heads.old.items ++ head ∷ []) }
+{
     heads.push(head)?;
     Ok(())
 }
@@ -131,6 +140,7 @@ fn push_formal(formals: &mut Vec<Formal>, formal: Formal) -> Result<(), AllocErr
 /// Tests a heading that declares its name: a function has a result type, and not too many routines are around it.
 fn heading_allowed(routine: &Routine, around: u32) -> Result<(), Fault>
     ensures value { Gives (λ u. u) (allowed.heading_allowed (out-Routine routine.now) around) result }
+    ensures low { OnOk result (around < 16) }
 {
     if routine.function && routine.result.is_none() {
         return Err(Rule::Kind.broken(routine.name.start));
@@ -269,44 +279,63 @@ impl<'t> Checker<'t> {
         routine: &Routine,
         number: u32,
         block: Option<&Block>,
-    ) -> Result<(usize, Scope), Fault> {
-        let head = self.begun(routine)?;
+    ) -> Result<(usize, Scope), Fault>
+        ensures value { Meets (λ h. (sight self.new.seen, h.1.names)) (HeadingMay (sight self.old.seen) routine.now (option_copied block.entry)) result }
+    {
+        let begun = self.begun(routine)?;
         let owner = Owner {
             routine: number,
-            level: self.seen.level.saturating_add(1),
+            level: begun.level,
         };
         let scope = self.seen.own_scope(&mut self.made, owner, routine, block)?;
         self.push_scope(scope)?;
         let formals = self.formals(owner, routine.formals.as_slice())?;
         let scope = self.pop_scope(number);
-        let made = Head {
+        let result = self.result(owner, routine.name, routine.result)?;
+        self.add_head(Head {
             name: routine.name,
             routine: number,
             level: owner.level,
             formals: formals.list,
             numbers: formals.numbers,
-            result: self.result(owner, routine.name, routine.result)?,
+            result,
             waiting: None,
             has_body: false,
             inside: false,
-        };
-        push_head(&mut self.seen.heads, made).map_err(Fault::Memory)?;
-        Ok((head, scope))
+        })?;
+        Ok((begun.head, scope))
     }
 
-    /// A heading that declares its name: its place among the headings.
+    /// A routine that callers see from now on.
+    #[tactic(auto, unfolding(crate::specs::Sight::sight))]
+    fn add_head(&mut self, head: Head) -> Result<(), Fault>
+        ensures headed { OnOk result (sight self.new.seen ≡ headed (sight self.old.seen) (heading_of head)) }
+        ensures memory { IfErr result IsMemory }
+    {
+        match push_head(&mut self.seen.heads, head) {
+            Ok(()) => Ok(()),
+            Err(error) => Err(Fault::Memory(error)),
+        }
+    }
+
+    /// A heading that declares its name.
     #[tactic(auto, unfolding(crate::specs::Headings::begun, crate::specs::Sight::sight))]
-    fn begun(&mut self, routine: &Routine) -> Result<usize, Fault>
-        ensures value { Gives (λ h. sight self.new.seen) (begun (sight self.old.seen) routine.now) result }
+    fn begun(&mut self, routine: &Routine) -> Result<Begun, Fault>
+        ensures value { Gives (λ b. sight self.new.seen) (begun (sight self.old.seen) routine.now) result }
+        ensures level { IfOk result (λ b. b.level ≡ (sight self.old.seen).level + 1) }
     {
         let name = routine.name;
         self.seen.claim(&mut self.made, name)?;
-        heading_allowed(routine, self.seen.level)?;
+        let level = self.seen.level;
+        heading_allowed(routine, level)?;
         let head = self.seen.heads.len();
         let function = routine.function;
         self.seen
             .define(&mut self.made, name, Meaning::Routine { head, function })?;
-        Ok(head)
+        Ok(Begun {
+            head,
+            level: level + 1,
+        })
     }
 
     /// A block inside the one at hand.
