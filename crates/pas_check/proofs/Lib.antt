@@ -3,6 +3,10 @@ pub mod Declared
 pub mod Found
 pub mod Loops
 pub mod Passing
+pub mod Reaching
+pub mod ReachingMarks
+pub mod ReachingLaw
+pub mod ReachingNotes
 pub mod Scopes
 pub mod Statements
 pub mod Turns

@@ -6,6 +6,7 @@ pub mod FirstFault
 pub mod Labels
 pub mod Names
 pub mod Outcome
+pub mod Placing
 pub mod Routine
 pub mod Rules
 pub mod Sight
