@@ -1,11 +1,10 @@
 -- The places that are kept of labels say the same as the paths, where places rise.
-use Rattle.std.proofs.Common.{◌≡◌, ℕ, zero, suc, ◌+◌, ◌<◌, ◌≤◌, Bool, true, false, List, [], ◌∷◌, ◌++◌, Option, Some, None, ◌⊎◌, inl, inr, refl, sym, ap, subst, ◌∙◌, nat_eq, nat_le, if◌then◌else◌, arith}
+use Rattle.std.proofs.Common.{◌≡◌, ℕ, zero, suc, ◌<◌, ◌≤◌, [], ◌∷◌, ◌++◌, Option, Some, None, refl, sym, ap, subst, ◌∙◌, arith}
 use Rattle.std.specs.Prelude.{max}
-use Rattle.std.proofs.lemmas.Bool.Decides.{nat_tests}
 use Rattle.std.proofs.lemmas.List.{append-nil}
 use Rattle.pas_tree.specs.declared.block.Label.{Label}
 use Rattle.pas_check.specs.Labels.{IsInside, Path}
-use Rattle.pas_check.specs.Placing.{LabelRises, Leaves, Node, Nothing, Other, Outline, Rises, Sequence, Shape, Then, first_place, last_place, statement_at}
+use Rattle.pas_check.specs.Placing.{LabelRises, Node, Nothing, Outline, Rises, Then, first_place, last_place, statement_at}
 
 -- ---- bounds
 
@@ -88,8 +87,14 @@ within Nothing (k ∷ q) p least end n g r en eg from until = absurd (cc)
 within (Then s inner rest) (k ∷ q) [] least end n g r en eg from until = absurd (cc)
 within (Then s inner rest) (zero ∷ []) (zero ∷ p) least end n g r en eg from until = record { inner = p; leads = refl }
 within (Then s inner rest) (zero ∷ []) (suc k ∷ p) least end n g r en eg from until =
-    absurd (omega (arith, ap node_end (some_is (record { shape = s; inner = inner }) n en), until, (lies rest (k ∷ p) r.0 end g r.3 eg).starts,
-    last_below inner (suc s.at) r.0 (omega arith) r.2, grows inner (suc s.at) r.0 r.2))
+    absurd (omega (
+      arith,
+      ap node_end (some_is (record { shape = s; inner = inner }) n en),
+      until,
+      (lies rest (k ∷ p) r.0 end g r.3 eg).starts,
+      last_below inner (suc s.at) r.0 (omega arith) r.2,
+      grows inner (suc s.at) r.0 r.2,
+    ))
 within (Then s inner rest) (zero ∷ (j ∷ q)) (zero ∷ []) least end n g r en eg from until =
     absurd (omega (arith, ap (λ (m : Node). m.shape.at) (some_is (record { shape = s; inner = inner }) g eg), from, (lies inner (j ∷ q) (suc s.at) r.0 n r.2 en).starts))
 within (Then s inner rest) (zero ∷ (j ∷ q)) (zero ∷ (i ∷ p)) least end n g r en eg from until =

@@ -1,14 +1,15 @@
 -- What is kept of a label is right.
-use Rattle.std.proofs.Common.{◌≡◌, ◌⊎◌, inl, inr, ℕ, zero, suc, ◌+◌, ◌<◌, ◌≤◌, Bool, true, false, List, [], ◌∷◌, ◌++◌, Option, Some, None, refl, sym, ap, subst, ◌∙◌, nat_le, arith}
-use Rattle.std.specs.Prelude.{max, ◌↔◌, ◌&&◌}
+use Rattle.std.proofs.Common.{◌≡◌, inl, inr, ℕ, zero, suc, ◌≤◌, Bool, true, false, List, [], ◌∷◌, ◌++◌, Option, Some, None, refl, sym, ap, subst, ◌∙◌, nat_le, arith, nat_eq}
+use Rattle.std.specs.Prelude.{◌↔◌, ◌&&◌}
 use Rattle.std.proofs.lemmas.Bool.Decides.{nat_tests}
 use Rattle.pas_tree.specs.declared.block.Label.{Label}
 use Rattle.pas_tree.specs.declared.statement.Statement.{Statement}
 use Rattle.pas_check.specs.declared.label.LabelDecl.{LabelDecl}
 use Rattle.pas_check.specs.declared.label.Placement.{Placement}
-use Rattle.pas_check.specs.Labels.{IsInside, MayReach, Path, may_reach}
+use Rattle.indexmap.specs.IndexMap.{get}
+use Rattle.pas_check.specs.Labels.{IsInside, Labels, MayReach, Path, may_reach}
 use Rattle.pas_check.specs.Labels.MayReach.{containing, member}
-use Rattle.pas_check.specs.Placing.{Branches, Container, Form, IsGotoAt, IsLabelAt, IsPlacedRightly, IsRightPlacement, Leaves, Mark, Members, Node, Nothing, Other, Outline, PlacesRise, Rises, Sequence, Shape, Then, container, first_of, first_place, has_sequence, is_sequence, is_sequence_form, last_place, marks, noted, outermost_of, outline, statement_at}
+use Rattle.pas_check.specs.Placing.{Branches, Container, Form, IsGotoAt, IsPlacedRightly, IsRightPlacement, Leaves, Mark, Members, Node, Notes, Nothing, Other, Outline, PlacesRise, Rises, Sequence, Then, container, first_of, first_place, has_sequence, is_sequence, is_sequence_form, last_place, marks, noted, outermost_of, outline, sequence_marks, statement_at}
 use Rattle.std.proofs.lemmas.List.{append-nil}
 use Rattle.pas_check.proofs.Reaching.{Lies, first_covers, first_from, inside_by, last_covers, lies, node_end, some_is, statement_below, strictly, within}
 use Rattle.pas_check.proofs.ReachingMarks.{IsChosen, IsFrom, container_at, each_marked, first_chosen, first_least, inner_container, of_statement, outer_container, parent, placed_in}
@@ -228,7 +229,9 @@ module _ (o : Outline) (least end : ℕ) (r : Rises least o end) (value : ℕ) w
       (ap (first_of value (marks (outermost_of o true) o)) (sym none)
       ∙ ap (λ (x : LabelDecl). x.placed) (some_is (record { at = d.at; placed = first_of value (marks (outermost_of o true) o) d.placed }) after e))
 
-pub places_law : (body : List Statement) → PlacesRise body → (value : ℕ) (d after : LabelDecl) → d.placed ≡ None
-    → noted value (marks (outermost_of (outline body) true) (outline body)) (Some d) ≡ Some after → IsPlacedRightly (outline body) value after.placed
+pub places_law : (body : List Statement) → PlacesRise body → (before after : Labels) → Notes before (sequence_marks body true) after
+    → (value : ℕ) (declared placed : LabelDecl) → get nat_eq before value ≡ Some declared → declared.placed ≡ None → get nat_eq after value ≡ Some placed
+    → IsPlacedRightly (outline body) value placed.placed
 unfolding all_marks
-places_law body rise value d after none e = law (outline body) rise.first rise.end rise.rise value d after none e
+places_law body rise before after notes value declared placed old none new =
+    law (outline body) rise.first rise.end rise.rise value declared placed none (ap (noted value (sequence_marks body true)) (sym old) ∙ sym (notes value) ∙ new)

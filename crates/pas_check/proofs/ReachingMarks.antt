@@ -1,11 +1,11 @@
 -- The marks of labels and the statements at their paths; which mark is the first.
-use Rattle.std.proofs.Common.{◌≡◌, ℕ, zero, suc, ◌+◌, ◌<◌, ◌≤◌, Bool, true, false, List, [], ◌∷◌, ◌++◌, Option, Some, None, ◌⊎◌, inl, inr, refl, sym, ap, subst, ◌∙◌, nat_eq, nat_le, if◌then◌else◌, arith}
+use Rattle.std.proofs.Common.{◌≡◌, ℕ, zero, suc, ◌<◌, ◌≤◌, Bool, true, false, List, [], ◌∷◌, ◌++◌, Option, Some, None, ◌⊎◌, inl, inr, refl, sym, ap, subst, ◌∙◌, nat_eq, nat_le, if◌then◌else◌, arith}
 use Rattle.std.specs.Prelude.{max}
 use Rattle.std.proofs.lemmas.Bool.Decides.{nat_tests}
 use Rattle.pas_tree.specs.declared.block.Label.{Label}
 use Rattle.pas_check.specs.declared.label.Placement.{Placement}
 use Rattle.pas_check.specs.Labels.{Path}
-use Rattle.pas_check.specs.Placing.{Branches, Container, Form, Leaves, Mark, Members, Node, Nothing, Other, Outline, Sequence, Shape, Then, container, earlier, first_of, label_mark, last_place, mark, mark_at_once, marks, marks_at_end, marks_inside, member_marks, statement_at}
+use Rattle.pas_check.specs.Placing.{Branches, Container, Mark, Members, Node, Nothing, Outline, Shape, Then, container, earlier, first_of, label_mark, last_place, mark, mark_at_once, marks, marks_at_end, marks_inside, member_marks, statement_at}
 use Rattle.pas_check.proofs.Reaching.{node_end, some_is}
 
 -- ---- members of lists
@@ -113,7 +113,7 @@ of_inside c Nothing m h = absurd h
 of_inside c (Then s inner rest) m h =
     let d = container s.form inner in
     elim (in_either m (marks_inside d inner ++ marks_at_end d inner) (mark_at_once c s inner ++ marks_inside c rest) h) [
-      inl a ↦ of_inner c s inner rest m (elim (in_either m (marks_inside d inner) (marks_at_end d inner) a) [ inl x ↦ of_inside d inner m x | inr y ↦ of_end d inner m y ])
+      | inl a ↦ of_inner c s inner rest m (elim (in_either m (marks_inside d inner) (marks_at_end d inner) a) [ inl x ↦ of_inside d inner m x | inr y ↦ of_end d inner m y ])
       | inr b ↦ elim (in_either m (mark_at_once c s inner) (marks_inside c rest) b) [ inl x ↦ of_first c s inner rest m (at_once_is c s inner m x) | inr y ↦ of_later c s inner rest m (of_inside c rest m y) ]
     ]
 
@@ -154,13 +154,13 @@ into_later (Members first last outermost) s inner rest m h =
     let c = Members first last outermost in
     let d = container s.form inner in
     elim (in_either m (marks_inside c rest) (member_marks c rest) h) [
-      inl a ↦ in_first m (marks_inside c (Then s inner rest)) (member_marks c (Then s inner rest)) (in_second m (marks_inside d inner ++ marks_at_end d inner) (marks_inside c rest) a)
+      | inl a ↦ in_first m (marks_inside c (Then s inner rest)) (member_marks c (Then s inner rest)) (in_second m (marks_inside d inner ++ marks_at_end d inner) (marks_inside c rest) a)
       | inr b ↦ in_second m (marks_inside c (Then s inner rest)) (member_marks c (Then s inner rest)) (in_second m (mark c s inner) (member_marks c rest) b)
     ]
 into_later Branches s inner rest m h =
     let d = container s.form inner in
     elim (in_either m (marks_inside Branches rest) [] h) [
-      inl a ↦ in_first m (marks_inside Branches (Then s inner rest)) [] (in_second m (marks_inside d inner ++ marks_at_end d inner) (mark Branches s inner ++ marks_inside Branches rest) (in_second m (mark Branches s inner) (marks_inside Branches rest) a))
+      | inl a ↦ in_first m (marks_inside Branches (Then s inner rest)) [] (in_second m (marks_inside d inner ++ marks_at_end d inner) (mark Branches s inner ++ marks_inside Branches rest) (in_second m (mark Branches s inner) (marks_inside Branches rest) a))
       | inr b ↦ absurd b
     ]
 
@@ -246,6 +246,6 @@ pub first_chosen : (n : ℕ) (ms : List Mark) (o : Option Placement) (p : Placem
 first_chosen n [] o p e = inl e
 first_chosen n (m ∷ ms) o p e =
     elim (first_chosen n ms (if nat_eq m.value n then earlier o m.placement else o) p e) [
-      inl a ↦ elim (if_is (nat_eq m.value n) o m.placement p a) [ inl x ↦ inl x | inr y ↦ inr (record { chosen = m; among = inl refl; same = equal_is m.value n y.0; is = y.1 }) ]
+      | inl a ↦ elim (if_is (nat_eq m.value n) o m.placement p a) [ inl x ↦ inl x | inr y ↦ inr (record { chosen = m; among = inl refl; same = equal_is m.value n y.0; is = y.1 }) ]
       | inr c ↦ inr (record { chosen = c.chosen; among = inr c.among; same = c.same; is = c.is })
     ]

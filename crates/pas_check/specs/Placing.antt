@@ -170,6 +170,10 @@ marks_inside c (Then s inner rest) =
 abbrev pub marks : Container → Outline → List Mark
 marks c o = marks_inside c o ++ marks_at_end c o
 
+-- those of a statement sequence
+abbrev pub sequence_marks : List Statement → Bool → List Mark
+sequence_marks body outermost = marks (outermost_of (outline body) outermost) (outline body)
+
 -- ---- labels with their statements
 
 -- the earlier in the text
@@ -177,7 +181,7 @@ abbrev pub earlier : Option Placement → Placement → Option Placement
 earlier None p = Some p
 earlier (Some q) p = if nat_le q.at p.at then Some q else Some p
 
--- the first of the marks with a value, and of one that was there
+-- the first in the text of the marks with a value, and of one that was there; at one place the one that is earlier in the list
 abbrev pub first_of : ℕ → List Mark → Option Placement → Option Placement
 first_of n [] placed = placed
 first_of n (m ∷ ms) placed = first_of n ms (if nat_eq m.value n then earlier placed m.placement else placed)

@@ -2,14 +2,14 @@
 
 ghost use Rattle.std.specs.Prelude.{◌≡◌, [], ◌∷◌, ℕ, Bool, IfOk, List, None, OnOk, Some, map, nat_eq, reverse, true};
 ghost use Rattle.std.specs.Option.{option_map};
-ghost use Rattle.indexmap.specs.IndexMap.{Updates};
+ghost use Rattle.indexmap.specs.IndexMap.{Updates, get};
 ghost use Rattle.pas_tree.specs.declared.statement.Statement.{Statement};
 ghost use Rattle.pas_check.specs.declared.label.LabelDecl.{LabelDecl};
 ghost use Rattle.pas_check.specs.Labels as spec;
 ghost use Rattle.pas_check.specs.Labels.{label_before, labelled};
 ghost use Rattle.pas_check.specs.Outcome.{Gives};
 ghost use Rattle.pas_check.specs.Placing as placing;
-ghost use Rattle.pas_check.specs.Placing.{Branches, IsPlacedRightly, Members, Notes, Nothing, PlacesRise, arm_of, below, content, content_of, end_of, in_order, label_mark, last_place, marks, marks_inside, member_marks, noted, or_nothing, outermost_of, outline, outline_of};
+ghost use Rattle.pas_check.specs.Placing.{Branches, IsPlacedRightly, Members, Notes, Nothing, PlacesRise, arm_of, below, content, content_of, end_of, in_order, label_mark, last_place, marks, marks_inside, member_marks, or_nothing, outline, outline_of, sequence_marks};
 ghost use Rattle.pas_check.specs.Sight.{sight};
 
 use crate::checker::Checker;
@@ -55,7 +55,7 @@ pub fn place_sequence(
     outermost: bool,
 ) -> Result<u32, AllocError>
     ensures last { IfOk result (λ to. to ≡ last_place (outline body.now)) }
-    ensures noted { OnOk result (Notes labels.old (marks (outermost_of (outline body.now) outermost) (outline body.now)) labels.new) }
+    ensures noted { OnOk result (Notes labels.old (sequence_marks body.now outermost) labels.new) }
 {
     let to = place_members(labels, body)?;
     let from = first_place(body);
@@ -241,14 +241,14 @@ fn note(
     Ok(())
 }
 
-/// A law: what is kept of a label is right where the places of the statements rise with the text, as they do in each tree
-/// that the parser makes. By its place a `goto` may lead to the label exactly where it may by its path, and a label that is
-/// kept with no statement stands before none.
+/// A law: what `place_sequence` keeps of the labels of a block is right where the places of the statements rise with the text,
+/// as they do in each tree that the parser makes. By its place a `goto` may lead to a label exactly where it may by its path,
+/// and a label that is kept with no statement stands before none.
 pub fn places_say_the_same_as_paths()
-    ensures { (body : List Statement) → PlacesRise body → (value : ℕ) (before after : LabelDecl) → before.placed ≡ None
-        → noted value (marks (outermost_of (outline body) true) (outline body)) (Some before) ≡ Some after → IsPlacedRightly (outline body) value after.placed }
-{
-}
+    ensures { (body : List Statement) → PlacesRise body → (before after : spec.Labels) → Notes before (sequence_marks body true) after
+        → (value : ℕ) (declared placed : LabelDecl) → get nat_eq before value ≡ Some declared → declared.placed ≡ None → get nat_eq after value ≡ Some placed
+        → IsPlacedRightly (outline body) value placed.placed }
+{}
 
 impl Scope {
     /// Declares a label of the block's label part.
