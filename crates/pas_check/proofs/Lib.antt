@@ -1,4 +1,16 @@
+pub mod Constants
+pub mod Declarations
 pub mod Declared
+pub mod Formals
 pub mod Found
+pub mod Headings
+pub mod Loops
+pub mod Noted
 pub mod Passing
+pub mod Reaching
+pub mod ReachingMarks
+pub mod ReachingLaw
+pub mod ReachingNotes
 pub mod Scopes
+pub mod Statements
+pub mod Turns

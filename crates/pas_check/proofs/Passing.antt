@@ -17,7 +17,7 @@ use Rattle.pas_check.specs.Statement.{all_read, read_into}
 pub gives_wrong : {A B : Type 0} (shown : A → B) (defined : Outcome B) (r : Outcome A) (e : Fault) → r ≡ Err e → (IsBroken e → defined ≡ Err e) → Gives shown defined r
 gives_wrong shown defined r e is wrong = subst (λ x. Gives shown defined x) (sym is) wrong
 
-drop_next : {A : Type 0} (xs : List A) (k : ℕ) (x : A) → k < length xs → x ≡ get_or xs k x → drop k xs ≡ x ∷ drop (k + 1) xs
+pub drop_next : {A : Type 0} (xs : List A) (k : ℕ) (x : A) → k < length xs → x ≡ get_or xs k x → drop k xs ≡ x ∷ drop (k + 1) xs
 drop_next xs k x h e = rw add-one (drop-cons xs k x h ∙ ap (λ y. y ∷ drop (suc k) xs) (sym e))
 
 first_drop : (formals : List Formal) (k : ℕ) → first_of (drop k formals) ≡ slice_get formals k

@@ -160,7 +160,7 @@ accessed v name subscripts = do
 -- a place that writes a whole variable
 unfoldable pub threatened : Sight → Option Variable → ℕ → Outcome (Unit {0})
 threatened v None at = Ok tt
-threatened v (Some x) at = unless (is_threat v.routine v.looping x) rule.Control at (Ok tt)
+threatened v (Some x) at = unless (is_threat v.level v.looping x) rule.Control at (Ok tt)
 
 -- the variable that a name without subscripts and actuals is
 unfoldable pub variable_by : Sight → Meaning → ℕ → Outcome Place

@@ -32,11 +32,19 @@ pub data MayReach (is_sequence : Path → Bool) (p : Path) : Path → Type 0 whe
   containing : {q : Path} → IsInside p q → MayReach is_sequence p q
   member : (s : Path) (k : ℕ) → is_sequence s ≡ true → IsInside p s → MayReach is_sequence p (s ++ k ∷ [])
 
--- ---- by places, as the walk keeps it
+-- ---- by places, as the walk keeps it: Placing.antt has which places, and that they say the same as the paths
 
 -- the labels of a block by their values
 abbrev pub Labels : Type 0
 Labels = HashMap ℕ LabelDecl (BuildHasherDefault FoldHasher)
+
+-- a block by the number of its routine, and its labels
+pub record Labelled : Type 0 where
+  pub routine : ℕ
+  pub labels : Labels
+
+abbrev pub labelled : Scope → Labelled
+labelled s = record { routine = s.routine; labels = s.labels }
 
 -- of a label's statement: the first and the last place of what may leave for it, and whether it is a member of the outermost
 -- sequence, for which inner routines may leave too
@@ -46,6 +54,11 @@ may_reach same_block at placed = placed.outermost || (same_block && (nat_le plac
 -- a label without a statement is at fault itself
 abbrev pub is_out_of_reach : Bool → ℕ → LabelDecl → Bool
 is_out_of_reach same_block at d = holds_of (λ (p : Placement). not (may_reach same_block at p)) d.placed
+
+-- the innermost of blocks
+abbrev pub first_scope : List Scope → Option Scope
+first_scope [] = None
+first_scope (s ∷ around) = Some s
 
 -- ---- the tests
 
@@ -72,24 +85,26 @@ abbrev pub placed_label : Labels → Label → Outcome ℕ
 placed_label labels l = unless (is_misplaced (place_in labels l.value) l.at.start) rule.Label l.at.start (Ok l.value)
 
 -- the block of the statement is the innermost one around
-abbrev pub first_scope : List Scope → Option Scope
-first_scope [] = None
-first_scope (s ∷ around) = Some s
+abbrev pub placed_by : List Labelled → Label → Outcome ℕ
+placed_by [] l = Err (Broken rule.Label l.at.start)
+placed_by (s ∷ around) l = placed_label s.labels l
 
-abbrev pub placed_by : Option Scope → Label → Outcome ℕ
-placed_by None l = Err (Broken rule.Label l.at.start)
-placed_by (Some s) l = placed_label s.labels l
+abbrev pub label_before : List Labelled → Option Label → Outcome (Unit {0})
+label_before blocks None = Ok tt
+label_before blocks (Some l) = do
+  value ← placed_by blocks l
+  Ok tt
 
 -- the label of a `goto` at a place: the innermost block that declares it, and whether its statement may be reached
 abbrev pub left_by : Outcome ℕ → ℕ → Label → ℕ → Bool → Option LabelDecl → Outcome ℕ
 left_by around routine l at inner None = around
 left_by around routine l at inner (Some d) = unless (is_out_of_reach inner at d) rule.Goto l.at.start (Ok routine)
 
-abbrev pub left_for : List Scope → Label → ℕ → Bool → Outcome ℕ
+abbrev pub left_for : List Labelled → Label → ℕ → Bool → Outcome ℕ
 left_for [] l at inner = Err (Broken rule.Label l.at.start)
 left_for (s ∷ around) l at inner = left_by (left_for around l at false) s.routine l at inner (get nat_eq s.labels l.value)
 
-abbrev pub goto_allowed : List Scope → Label → ℕ → Outcome (Unit {0})
+abbrev pub goto_allowed : List Labelled → Label → ℕ → Outcome (Unit {0})
 goto_allowed scopes l at = do
   routine ← left_for scopes l at true
   Ok tt

@@ -93,13 +93,13 @@ is_unplaced place = is_none place
 -- statement inside another one, or of a member of its sequence, goes on from the other's. See `Labels`.
 
 -- ---- 11, control variable not allowed; at its name in the `for`: it is no scalar of the variable part of the closest block,
--- or a routine of that block threatens it,
+-- or a routine of that block threatens it (a variable in sight is of the closest block where as many routines are around it),
 abbrev pub is_no_control : ℕ → (ℕ → Bool) → Variable → Bool
-is_no_control routine threatened x = not (is_kind x.kind kind.Local && nat_eq x.routine routine) || threatened x.number
+is_no_control level threatened x = not (is_kind x.kind kind.Local && nat_eq x.level level) || threatened x.at
 
 -- or the statement of a `for` over it writes it: at the threatening name
 abbrev pub is_threat : ℕ → (ℕ → Bool) → Variable → Bool
-is_threat routine looping x = nat_eq x.routine routine && looping x.number
+is_threat level looping x = nat_eq x.level level && looping x.at
 
 -- ---- 12, double case constant: the same `case` had it before; at the constant
 abbrev pub is_double : ℤ → List ℤ → Bool

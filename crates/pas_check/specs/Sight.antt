@@ -1,5 +1,8 @@
 -- What a test sees where the walk stands.
 use Rattle.std.specs.Prelude.{ℕ, Bool, List, [], ◌∷◌, map, reverse, nat_eq, is_some, Option, Some, None, slice_get}
+use Rattle.std.specs.HashMap.{HashMap}
+use Rattle.std.specs.declared.hash.BuildHasherDefault.{BuildHasherDefault}
+use Rattle.std.specs.declared.hash.FoldHasher.{FoldHasher}
 use Rattle.px_base.specs.declared.place.Span.{Span}
 use Rattle.pas_program.specs.declared.type_def.TypeDef.{TypeDef}
 use Rattle.pas_program.specs.declared.type_def.TypeDef.TheVariants.{Scalar, Array}
@@ -10,6 +13,7 @@ use Rattle.pas_check.specs.declared.routine.Head.{Head}
 use Rattle.pas_check.specs.declared.scope.Declaration.{Declaration}
 use Rattle.pas_check.specs.declared.scope.Scope.{Scope}
 use Rattle.pas_check.specs.declared.seen.Seen.{Seen}
+use Rattle.pas_check.specs.Labels.{Labelled, labelled}
 use Rattle.pas_check.specs.Names.{Names, denoted, name_at}
 
 -- a procedure or a function as its callers see it
@@ -24,15 +28,19 @@ pub record Sight : Type 0 where
   pub text : List ℕ
   -- what the blocks around declare, the innermost first
   pub blocks : List Names
+  -- their labels
+  pub labels : List Labelled
   -- the types that were read, by their numbers
   pub types : List TypeDef
   pub headings : List Heading
-  -- the routine in whose block the walk stands
-  pub routine : ℕ
+  -- how many routines are around
+  pub level : ℕ
   -- whether it stands in an assertion
   pub asserting : Bool
-  -- the control variables of the `for` statements around
+  -- the control variables of the `for` statements around, by the places where they are declared
   pub looping : ℕ → Bool
+  -- the variables that a routine inside their own threatens, by these places too, of the routines whose blocks have ended
+  pub threatened : ℕ → Bool
 
 abbrev pub heading_of : Head → Heading
 heading_of h = record { formals = h.formals.items; result = h.result; inside = h.inside }
@@ -40,15 +48,21 @@ heading_of h = record { formals = h.formals.items; result = h.result; inside = h
 abbrev pub names_around : List Scope → List Names
 names_around scopes = map (λ (s : Scope). s.names) (reverse scopes)
 
+-- whether a set of variables has the one of this number
+abbrev pub has : HashMap ℕ (Unit {0}) (BuildHasherDefault FoldHasher) → ℕ → Bool
+has set n = is_some (get nat_eq set n)
+
 unfoldable pub sight : Seen → Sight
 sight c = record {
   text = c.text.now;
   blocks = names_around c.scopes.items;
+  labels = map labelled (reverse c.scopes.items);
   types = c.types.list.list;
   headings = map heading_of c.heads.items;
-  routine = c.routine;
+  level = c.level;
   asserting = c.asserting;
-  looping = λ v. is_some (get nat_eq c.looping v);
+  looping = has c.looping;
+  threatened = has c.threatened;
 }
 
 -- what the name at a span denotes

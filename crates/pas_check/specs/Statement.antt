@@ -10,7 +10,7 @@ use Rattle.pas_check.specs.declared.meaning.Variable.{Variable}
 use Rattle.pas_check.specs.Constant.{constant}
 use Rattle.pas_check.specs.Expr.{Found, Given, called_with, callee_at, expression_by, fits, is_host, meant, no_width, reached, result_inside, threatened}
 use Rattle.pas_check.specs.Outcome.{Outcome, ◌>>=◌, unless}
-use Rattle.pas_check.specs.Rules.{is_other_host}
+use Rattle.pas_check.specs.Rules.{is_double, is_other_host}
 use Rattle.pas_check.specs.Sight.{Sight, host_at}
 
 -- ---- assignment
@@ -43,10 +43,10 @@ assigned v name subscripts value = do
 -- ---- `case`
 
 -- a constant that the selector's host has and that stands not among those before
-abbrev pub case_constant : Sight → (ℤ → Bool) → Bool → Constant → Outcome ℤ
+abbrev pub case_constant : Sight → List ℤ → Bool → Constant → Outcome ℤ
 case_constant v before boolean c = do
   x ← constant v c
-  unless (is_other_host boolean x.boolean) rule.Type c.span.start (unless (before x.value) rule.CaseConstant c.span.start (Ok x.value))
+  unless (is_other_host boolean x.boolean) rule.Type c.span.start (unless (is_double x.value before) rule.CaseConstant c.span.start (Ok x.value))
 
 -- ---- procedure calls
 

@@ -195,10 +195,10 @@ impl<'t> Seen<'t> {
         let Some(variable) = whole else {
             return Ok(());
         };
-        if variable.routine != self.routine {
+        if variable.level != self.level {
             return mark(made, variable).map_err(Fault::Memory);
         }
-        if self.looping.contains_key(&variable.number) {
+        if self.looping.contains_key(&variable.at) {
             return Err(Rule::Control.broken(at));
         }
         Ok(())
@@ -206,6 +206,6 @@ impl<'t> Seen<'t> {
 }
 
 fn mark(made: &mut Made, variable: Variable) -> Result<(), AllocError> {
-    made.threatened.insert(variable.number, ())?;
+    made.threats.push(variable.at)?;
     Ok(())
 }

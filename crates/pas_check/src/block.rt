@@ -1,22 +1,29 @@
 //! Blocks and their declarations (ISO 7185, 6.2).
 
+ghost use Rattle.std.specs.Prelude.{◌≡◌, IfErr, Ok, OnOk};
+ghost use Rattle.pas_check.specs.Declarations.{InTurn, IsLocal, VarMay, const_declared, led_by, type_declared};
+ghost use Rattle.pas_check.specs.Outcome.{Gives, IsMemory, Meets};
+ghost use Rattle.pas_check.specs.Sight.{sight};
+
 use crate::checker::Checker;
 use crate::fault::{Fault, Rule};
 use crate::frame::Frame;
 use crate::label::place_sequence;
-use crate::meaning::Meaning;
+use crate::meaning::{Meaning, Variable};
 use crate::plan::Plan;
 use crate::scope::Scope;
 use pas_program::{Body, Statement, VarKind};
 use pas_tree::{Block, ConstDecl, Routine, RoutineBody, Tree, TypeDecl, VarDecl};
+use px_base::Span;
 use sqlite_items::Items;
 use std::alloc::AllocError;
 
 impl<'t> Checker<'t> {
     /// The program's block.
     pub fn program(&mut self, tree: &Tree) -> Result<(), Fault> {
-        let mut scope = Scope::new(self.seen.alloc, self.seen.routine);
-        self.note_block(&mut scope, &tree.block)?;
+        let mut scope = Scope::new(self.seen.alloc, self.made.frame.routine);
+        self.seen
+            .note_block(&mut self.made, &mut scope, &tree.block)?;
         self.push_scope(scope)?;
         let body = self.block(&tree.block, None)?;
         let empty = Frame::new(
@@ -72,36 +79,89 @@ impl<'t> Checker<'t> {
         Ok(())
     }
 
-    fn const_part(&mut self, decls: &[ConstDecl]) -> Result<(), Fault> {
+    fn const_part(&mut self, decls: &[ConstDecl]) -> Result<(), Fault>
+        ensures value { Gives (λ u. sight self.new.seen) (led_by const_declared (sight self.old.seen) decls.now) result }
+    {
         for decl in decls {
-            self.seen.claim(&mut self.made, decl.name)?;
-            let value = self.seen.constant(&mut self.made, &decl.value)?;
-            self.seen
-                .define(&mut self.made, decl.name, Meaning::Constant(value))?;
+            self.const_declared(decl)?;
         }
         Ok(())
     }
 
-    fn type_part(&mut self, decls: &[TypeDecl]) -> Result<(), Fault> {
+    #[tactic(auto, unfolding(crate::specs::Declarations::const_declared))]
+    fn const_declared(&mut self, decl: &ConstDecl) -> Result<(), Fault>
+        ensures value { Gives (λ u. sight self.new.seen) (const_declared (sight self.old.seen) decl.now) result }
+    {
+        self.seen.claim(&mut self.made, decl.name)?;
+        let value = self.seen.constant(&mut self.made, &decl.value)?;
+        self.seen
+            .define(&mut self.made, decl.name, Meaning::Constant(value))
+    }
+
+    fn type_part(&mut self, decls: &[TypeDecl]) -> Result<(), Fault>
+        ensures value { Gives (λ u. sight self.new.seen) (led_by type_declared (sight self.old.seen) decls.now) result }
+    {
         for decl in decls {
-            self.seen.claim(&mut self.made, decl.name)?;
-            let number = self.type_expr(&decl.of_type)?;
-            self.seen
-                .define(&mut self.made, decl.name, Meaning::Type(number))?;
+            self.type_declared(decl)?;
         }
         Ok(())
     }
 
-    fn var_part(&mut self, decls: &[VarDecl]) -> Result<(), Fault> {
+    #[tactic(auto, unfolding(crate::specs::Declarations::type_declared))]
+    fn type_declared(&mut self, decl: &TypeDecl) -> Result<(), Fault>
+        ensures value { Gives (λ u. sight self.new.seen) (type_declared (sight self.old.seen) decl.now) result }
+    {
+        self.seen.claim(&mut self.made, decl.name)?;
+        let number = self.type_expr(&decl.of_type)?;
+        self.seen
+            .define(&mut self.made, decl.name, Meaning::Type(number))
+    }
+
+    fn var_part(&mut self, decls: &[VarDecl]) -> Result<(), Fault>
+        ensures value { Meets (λ u. sight self.new.seen) (InTurn VarMay (sight self.old.seen) decls.now) result }
+    {
         for decl in decls {
-            self.claim_names(decl.names.as_slice())?;
-            let of_type = self.type_expr(&decl.of_type)?;
-            for name in decl.names.as_slice() {
-                let variable = self.made.variable(*name, VarKind::Local, of_type)?;
-                self.seen
-                    .define(&mut self.made, *name, Meaning::Variable(variable))?;
-            }
+            self.var_declared(decl)?;
         }
+        Ok(())
+    }
+
+    /// The variables of a section.
+    fn var_declared(&mut self, decl: &VarDecl) -> Result<(), Fault>
+        ensures value { Meets (λ u. sight self.new.seen) (VarMay (sight self.old.seen) decl.now) result }
+    {
+        let names = decl.names.as_slice();
+        self.claim_names(names)?;
+        let of_type = self.type_expr(&decl.of_type)?;
+        self.locals(names, of_type)?;
+        Ok(())
+    }
+
+    fn locals(&mut self, names: &[Span], of_type: u32) -> Result<(), Fault>
+        ensures value { OnOk result (InTurn (IsLocal of_type) (sight self.old.seen) names.now (Ok (sight self.new.seen))) }
+        ensures memory { IfErr result IsMemory }
+    {
+        for name in names {
+            self.local(*name, of_type)?;
+        }
+        Ok(())
+    }
+
+    /// A variable of the block at hand.
+    fn local(&mut self, name: Span, of_type: u32) -> Result<(), Fault>
+        ensures value { OnOk result (IsLocal of_type (sight self.old.seen) name (Ok (sight self.new.seen))) }
+        ensures memory { IfErr result IsMemory }
+    {
+        let number = self.made.add_own(name, VarKind::Local, of_type)?;
+        let variable = Variable {
+            number,
+            at: name.start,
+            level: self.seen.level,
+            kind: VarKind::Local,
+            of_type,
+        };
+        self.seen
+            .define(&mut self.made, name, Meaning::Variable(variable))?;
         Ok(())
     }
 

@@ -49,13 +49,13 @@ fn checked(alloc: Global, text: &[u8], tree: &Tree) -> Result<Program, Fault>
     ensures constants { IfOk result (λ p. ConstantsDiffer p.routines) }
     ensures assertions { IfOk result (λ p. AssertsStand p.routines p.asserts) }
 {
-    let mut checker = Checker::new(alloc, text, tree).map_err(Fault::Memory)?;
+    let mut checker = Checker::new(alloc, text, tree)?;
     checker.program(tree)?;
     checker.into_program()
 }
 
 impl<'t> Checker<'t> {
-    fn new(alloc: Global, text: &'t [u8], tree: &Tree) -> Result<Checker<'t>, AllocError> {
+    fn new(alloc: Global, text: &'t [u8], tree: &Tree) -> Result<Checker<'t>, Fault> {
         let number = count_bodies(&tree.block);
         let frame = Frame::new(alloc, tree.name, number, None, 0, Items::new(alloc), None);
         let mut checker = Checker {
@@ -65,21 +65,23 @@ impl<'t> Checker<'t> {
                 scopes: Vec::new(alloc),
                 types: Types::new(alloc)?,
                 heads: Vec::new(alloc),
-                routine: number,
+                level: 0,
                 asserting: false,
                 looping: IndexMap::new(alloc),
+                threatened: IndexMap::new(alloc),
             },
             made: Made {
                 vars: Items::new(alloc),
                 routines: Items::new(alloc),
                 asserts: Items::new(alloc),
                 frame,
-                threatened: IndexMap::new(alloc),
+                threats: Vec::new(alloc),
+                assigned: IndexMap::new(alloc),
                 lower: Vec::new(alloc),
             },
         };
-        let required = required(alloc, number)?;
-        checker.seen.scopes.push(required)?;
+        let required = required(alloc, number).map_err(Fault::Memory)?;
+        checker.push_scope(required)?;
         Ok(checker)
     }
 
@@ -104,7 +106,7 @@ impl<'t> Checker<'t> {
 
     /// Goes into the block of another routine, and answers the frame of the one that was at hand.
     pub fn exchange_frame(&mut self, frame: Frame) -> Frame {
-        self.seen.routine = frame.routine;
+        self.seen.level = frame.level;
         mem::replace(&mut self.made.frame, frame)
     }
 }

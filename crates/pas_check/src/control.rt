@@ -1,18 +1,19 @@
 //! Control variables (ISO 7185, 6.8.3.9).
 
-ghost use Rattle.std.specs.Prelude.{◌≡◌};
+ghost use Rattle.std.specs.Prelude.{◌≡◌, false, OnOk};
 ghost use Rattle.pas_program.specs.Tables.{is_kind};
 ghost use Rattle.pas_program.specs.declared.variable.VarKind.TheVariants as kind;
 ghost use Rattle.pas_check.specs.Control as spec;
-ghost use Rattle.pas_check.specs.Control.{marks};
+ghost use Rattle.pas_check.specs.Expr.{found};
 ghost use Rattle.pas_check.specs.Outcome.{Gives};
-ghost use Rattle.pas_check.specs.Sight.{sight};
+ghost use Rattle.pas_check.specs.Sight.{Sight, sight};
+ghost use Rattle.pas_check.specs.Statements.{for_head, over, stated};
 
 use crate::checker::Checker;
 use crate::fault::{Fault, Rule};
 use crate::meaning::{Meaning, Variable};
 use crate::seen::{Made, Seen};
-use pas_program::VarKind;
+use pas_program::{Body, Expr, VarKind};
 use px_base::Span;
 use std::alloc::AllocError;
 
@@ -20,25 +21,20 @@ impl<'t> Seen<'t> {
     /// The control variable of a `for` and its host: a scalar of the variable part of the closest block that nothing
     /// threatens.
     pub fn control(&self, made: &mut Made, name: Span) -> Result<(Variable, bool), Fault>
-        ensures value { Gives (λ r. r) (spec.controlled (sight self.now) (marks made.old) name) result }
+        ensures value { Gives (λ r. r) (spec.controlled (sight self.now) name) result }
     {
         let meaning = self.meaning(made, name)?;
-        self.control_meant(made, meaning, name.start)
+        self.control_meant(meaning, name.start)
     }
 
     #[tactic(auto, unfolding(crate::specs::Sight::sight))]
-    fn control_meant(
-        &self,
-        made: &Made,
-        meaning: Meaning,
-        at: u32,
-    ) -> Result<(Variable, bool), Fault>
-        ensures value { Gives (λ r. r) (spec.control_by (sight self.now) (marks made.now) meaning at) result }
+    fn control_meant(&self, meaning: Meaning, at: u32) -> Result<(Variable, bool), Fault>
+        ensures value { Gives (λ r. r) (spec.control_by (sight self.now) meaning at) result }
     {
         match meaning {
             Meaning::Variable(variable) => match self.types.host(variable.of_type) {
                 Some(boolean) => {
-                    if self.is_free(made, variable) {
+                    if self.is_free(variable) {
                         Ok((variable, boolean))
                     } else {
                         Err(Rule::Control.broken(at))
@@ -56,13 +52,13 @@ impl<'t> Seen<'t> {
 
     /// Whether a variable is one of the variable part of the block, which nothing threatens.
     #[tactic(auto, unfolding(crate::specs::Sight::sight))]
-    fn is_free(&self, made: &Made, variable: Variable) -> bool
-        ensures { result ≡ spec.is_free (sight self.now) (marks made.now) variable }
+    fn is_free(&self, variable: Variable) -> bool
+        ensures { result ≡ spec.is_free (sight self.now) variable }
     {
         is_local(variable)
-            && variable.routine == self.routine
-            && !made.threatened.contains_key(&variable.number)
-            && !self.looping.contains_key(&variable.number)
+            && variable.level == self.level
+            && !self.threatened.contains_key(&variable.at)
+            && !self.looping.contains_key(&variable.at)
     }
 }
 
@@ -76,15 +72,96 @@ fn is_local(variable: Variable) -> bool
     }
 }
 
-impl<'t> Checker<'t> {
-    /// Takes note that a `for` over the variable begins.
-    pub fn enter_loop(&mut self, variable: Variable) -> Result<(), AllocError> {
-        self.seen.looping.insert(variable.number, ())?;
+impl<'t> Seen<'t> {
+    /// A `for` whose word stands at `at`, with its control variable and its two bounds.
+    #[tactic(auto, unfolding(crate::specs::Statements::for_head))]
+    pub fn for_head(
+        &self,
+        made: &mut Made,
+        control: Span,
+        first: &pas_tree::Expr,
+        last: &pas_tree::Expr,
+        at: Span,
+    ) -> Result<ForHead, Fault>
+        ensures value { Gives (λ h. h.variable) (for_head (sight self.now) control (found (sight self.now) first.now) (found (sight self.now) last.now)) result }
+    {
+        let (variable, boolean) = self.control(made, control)?;
+        let bound = made.add_own(at, VarKind::Bound, variable.of_type)?;
+        let first = self.of_host(made, first, boolean)?;
+        let last = self.of_host(made, last, boolean)?;
+        Ok(ForHead {
+            variable,
+            bound,
+            first,
+            last,
+        })
+    }
+
+    /// Takes note that a `for` begins over the variable that is declared at a place.
+    #[tactic(auto, unfolding(crate::specs::Sight::sight))]
+    fn enter_loop(&mut self, at: u32) -> Result<(), AllocError>
+        ensures over { OnOk result (sight self.new ≡ over (sight self.old) at) }
+    {
+        self.looping.insert(at, ())?;
         Ok(())
     }
 
     /// Takes note that it ends.
-    pub fn leave_loop(&mut self, variable: Variable) {
-        self.seen.looping.swap_remove(&variable.number);
+    #[tactic(auto, unfolding(crate::specs::Sight::sight))]
+    fn leave_loop(&mut self, at: u32)
+        ensures { (v : Sight) → v.looping at ≡ false → sight self.old ≡ over v at → sight self.new ≡ v }
+    {
+        self.looping.swap_remove(&at);
+    }
+}
+
+/// A `for` without its statement.
+#[derive(Drop)]
+pub struct ForHead {
+    variable: Variable,
+    bound: u32,
+    first: Expr,
+    last: Expr,
+}
+
+impl<'t> Checker<'t> {
+    /// A `for` statement.
+    #[tactic(auto, unfolding(crate::specs::Statements::for_head))]
+    #[cycle(statement)]
+    pub fn for_statement(
+        &mut self,
+        head: ForHead,
+        down: bool,
+        body: &pas_tree::Statement,
+    ) -> Result<Body, Fault>
+        ensures value { Gives (λ b. tt) (stated body.now (over (sight self.old.seen) head.variable.at)) result }
+        ensures kept { (sight self.old.seen).looping head.variable.at ≡ false → OnOk result (sight self.new.seen ≡ sight self.old.seen) }
+    {
+        let ForHead {
+            variable,
+            bound,
+            first,
+            last,
+        } = head;
+        self.seen.enter_loop(variable.at).map_err(Fault::Memory)?;
+        let body = self.boxed(body)?;
+        self.seen.leave_loop(variable.at);
+        Ok(Body::For {
+            control: variable.number,
+            bound,
+            first,
+            down,
+            last,
+            body,
+        })
+    }
+
+    /// Takes note of what the routine at hand threatens, when its block ends.
+    pub fn note_threats(&mut self) -> Result<(), AllocError> {
+        for at in self.made.threats.as_slice() {
+            self.seen.threatened.insert(*at, ())?;
+        }
+        self.made.threats.clear();
+        Ok(())
     }
 }

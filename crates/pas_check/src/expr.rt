@@ -399,15 +399,9 @@ impl<'t> Seen<'t> {
         if self.is_asserting() {
             return Err(Rule::AssertionCall.broken(name.start));
         }
-        let slot = made.variable(name, VarKind::Slot, callee.result)?;
+        let slot = made.add_own(name, VarKind::Slot, callee.result)?;
         let actuals = self.actuals(made, head, actuals)?;
-        Ok(self.called(
-            callee.routine,
-            actuals,
-            slot.number,
-            callee.result,
-            name.start,
-        ))
+        Ok(self.called(callee.routine, actuals, slot, callee.result, name.start))
     }
 
     /// The value of a call.

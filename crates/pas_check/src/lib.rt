@@ -9,6 +9,7 @@ mod access;
 mod actual;
 mod block;
 mod checker;
+mod choice;
 mod constant;
 mod control;
 mod expr;

@@ -26,7 +26,10 @@ pub struct Value {
 #[derive(Clone, Copy, Debug, PartialEq, Eq)]
 pub struct Variable {
     pub number: u32,
-    pub routine: u32,
+    /// The place of its name where it is declared, by which tests know it.
+    pub at: u32,
+    /// How many routines are around its declaration.
+    pub level: u32,
     pub kind: VarKind,
     pub of_type: u32,
 }

@@ -1,10 +1,16 @@
 //! What a block declares, before its walk begins.
 
+ghost use Rattle.std.specs.Prelude.{◌≡◌, IfErr, OnOk, flat_map, map};
+ghost use Rattle.pas_check.specs.Block.{const_name, names_in, routine_name, section_names, type_name, var_names};
+ghost use Rattle.pas_check.specs.Names.{name_at, noted, noted_all};
+ghost use Rattle.pas_check.specs.Outcome.{IsMemory};
+
 use crate::checker::Checker;
 use crate::fault::Fault;
 use crate::scope::Scope;
+use crate::seen::{Made, Seen};
 use indexmap::IndexMap;
-use pas_tree::{Block, Routine, RoutineBody, Section, VarDecl};
+use pas_tree::{Block, ConstDecl, Routine, RoutineBody, Section, TypeDecl, VarDecl};
 use px_base::Span;
 use std::alloc::{AllocError, Global};
 
@@ -85,45 +91,115 @@ impl<'t> Checker<'t> {
         }
         Ok(plans)
     }
+}
 
+impl<'t> Seen<'t> {
     /// Takes note of the names that a block declares.
-    pub fn note_block(&mut self, scope: &mut Scope, block: &Block) -> Result<(), Fault> {
-        for decl in block.consts.as_slice() {
-            self.note(scope, decl.name)?;
+    #[tactic(auto, using(crate::proofs::Noted::noted_append))]
+    pub fn note_block(&self, made: &mut Made, scope: &mut Scope, block: &Block) -> Result<(), Fault>
+        ensures names { OnOk result (scope.new.names ≡ noted_all self.now.text.now (names_in block.now) scope.old.names) }
+        ensures memory { IfErr result IsMemory }
+    {
+        self.note_consts(made, scope, block.consts.as_slice())?;
+        self.note_types(made, scope, block.types.as_slice())?;
+        self.note_vars(made, scope, block.vars.as_slice())?;
+        self.note_routines(made, scope, block.routines.as_slice())?;
+        Ok(())
+    }
+
+    fn note_consts(
+        &self,
+        made: &mut Made,
+        scope: &mut Scope,
+        decls: &[ConstDecl],
+    ) -> Result<(), Fault>
+        ensures names { OnOk result (scope.new.names ≡ noted_all self.now.text.now (map const_name decls.now) scope.old.names) }
+        ensures memory { IfErr result IsMemory }
+    {
+        for decl in decls {
+            self.note(made, scope, decl.name)?;
         }
-        for decl in block.types.as_slice() {
-            self.note(scope, decl.name)?;
+        Ok(())
+    }
+
+    fn note_types(
+        &self,
+        made: &mut Made,
+        scope: &mut Scope,
+        decls: &[TypeDecl],
+    ) -> Result<(), Fault>
+        ensures names { OnOk result (scope.new.names ≡ noted_all self.now.text.now (map type_name decls.now) scope.old.names) }
+        ensures memory { IfErr result IsMemory }
+    {
+        for decl in decls {
+            self.note(made, scope, decl.name)?;
         }
-        for decl in block.vars.as_slice() {
-            self.note_names(scope, decl.names.as_slice())?;
+        Ok(())
+    }
+
+    fn note_vars(&self, made: &mut Made, scope: &mut Scope, decls: &[VarDecl]) -> Result<(), Fault>
+        ensures names { OnOk result (scope.new.names ≡ noted_all self.now.text.now (flat_map var_names decls.now) scope.old.names) }
+        ensures memory { IfErr result IsMemory }
+    {
+        for decl in decls {
+            self.note_names(made, scope, decl.names.as_slice())?;
         }
-        for routine in block.routines.as_slice() {
-            self.note(scope, routine.name)?;
+        Ok(())
+    }
+
+    fn note_routines(
+        &self,
+        made: &mut Made,
+        scope: &mut Scope,
+        routines: &[Routine],
+    ) -> Result<(), Fault>
+        ensures names { OnOk result (scope.new.names ≡ noted_all self.now.text.now (map routine_name routines.now) scope.old.names) }
+        ensures memory { IfErr result IsMemory }
+    {
+        for routine in routines {
+            self.note(made, scope, routine.name)?;
         }
         Ok(())
     }
 
     /// Takes note of the names of parameters.
-    pub fn note_formals(&mut self, scope: &mut Scope, sections: &[Section]) -> Result<(), Fault> {
+    pub fn note_formals(
+        &self,
+        made: &mut Made,
+        scope: &mut Scope,
+        sections: &[Section],
+    ) -> Result<(), Fault>
+        ensures names { OnOk result (scope.new.names ≡ noted_all self.now.text.now (flat_map section_names sections.now) scope.old.names) }
+        ensures memory { IfErr result IsMemory }
+    {
         for section in sections {
-            self.note_names(scope, section.names.as_slice())?;
+            self.note_names(made, scope, section.names.as_slice())?;
         }
         Ok(())
     }
 
-    fn note_names(&mut self, scope: &mut Scope, names: &[Span]) -> Result<(), Fault> {
+    fn note_names(&self, made: &mut Made, scope: &mut Scope, names: &[Span]) -> Result<(), Fault>
+        ensures names { OnOk result (scope.new.names ≡ noted_all self.now.text.now names.now scope.old.names) }
+        ensures memory { IfErr result IsMemory }
+    {
         for name in names {
-            self.note(scope, *name)?;
+            self.note(made, scope, *name)?;
         }
         Ok(())
     }
 
-    fn note(&mut self, scope: &mut Scope, name: Span) -> Result<(), Fault> {
-        self.made.spell(self.seen.text, name)?;
-        scope
+    fn note(&self, made: &mut Made, scope: &mut Scope, name: Span) -> Result<(), Fault>
+        ensures names { OnOk result (scope.new.names ≡ noted (name_at self.now.text.now name) name.start scope.old.names) }
+        ensures memory { IfErr result IsMemory }
+    {
+        made.spell(self.text, name)?;
+        match scope
             .names
-            .note(self.seen.alloc, self.made.lower.as_slice(), name.start)
-            .map_err(Fault::Memory)
+            .note(self.alloc, made.lower.as_slice(), name.start)
+        {
+            Ok(()) => Ok(()),
+            Err(error) => Err(Fault::Memory(error)),
+        }
     }
 }
 

@@ -1,12 +1,17 @@
 //! Procedures and functions (ISO 7185, 6.6.1 and 6.6.2).
 
-ghost use Rattle.std.specs.Prelude.{◌≡◌, slice_get};
-ghost use Rattle.std.specs.Option.{option_map};
+ghost use Rattle.std.specs.Prelude.{◌≡◌, ◌+◌, ◌<◌, ◌∷◌, ◌++◌, [], IfErr, IfOk, IfSome, Ok, OnOk, slice_get};
+ghost use Rattle.std.specs.Option.{option_copied, option_map};
+ghost use Rattle.pas_check.specs.Declarations.{InTurn, led_by, name_claimed};
 ghost use Rattle.pas_check.specs.Expr as spec;
 ghost use Rattle.pas_check.specs.Expr.{call_shown, callee_at, formals_at, result_inside};
-ghost use Rattle.pas_check.specs.Outcome.{Gives};
+ghost use Rattle.pas_check.specs.Formals as formal;
+ghost use Rattle.pas_check.specs.Formals.{IsFormal, SectionMay};
+ghost use Rattle.pas_check.specs.Outcome.{Gives, IsMemory, Meets};
 ghost use Rattle.pas_check.specs.Routine as allowed;
-ghost use Rattle.pas_check.specs.Sight.{sight};
+ghost use Rattle.pas_check.specs.Headings.{HeadingMay, begun, headed, inside, outside, own_names, result_of, result_read};
+ghost use Rattle.pas_check.specs.Labels.{labelled};
+ghost use Rattle.pas_check.specs.Sight.{heading_of, innermost, sight};
 ghost use Rattle.pas_tree.specs.declared.block.RoutineBody.TheViews.{out-Routine};
 
 use crate::actual::Formal;
@@ -16,7 +21,7 @@ use crate::frame::Frame;
 use crate::meaning::{Meaning, Variable};
 use crate::plan::Plan;
 use crate::scope::Scope;
-use crate::seen::Seen;
+use crate::seen::{Made, Seen};
 use pas_program::VarKind;
 use pas_tree::{Block, Routine, RoutineBody, Section};
 use px_base::Span;
@@ -42,15 +47,13 @@ pub struct Head {
     pub has_body: bool,
     /// Whether the walk is inside its block.
     inside: bool,
-    /// Whether its block assigns to its name.
-    assigned: bool,
 }
 
 impl Head {
-    fn result_assigned(&self) -> Result<(), Fault>
-        ensures value { Gives (λ u. u) (allowed.result_assigned self.now) result }
+    fn result_assigned(&self, assigned: bool) -> Result<(), Fault>
+        ensures value { Gives (λ u. u) (allowed.result_assigned self.now assigned) result }
     {
-        if self.result.is_some() && !self.assigned {
+        if self.result.is_some() && !assigned {
             Err(Rule::Result.broken(self.name.start))
         } else {
             Ok(())
@@ -68,6 +71,49 @@ impl Head {
     }
 }
 
+/// Whose formals and result are declared: a routine, and how many are around what it declares.
+#[derive(Clone, Copy, Debug, PartialEq, Eq)]
+struct Owner {
+    routine: u32,
+    level: u32,
+}
+
+/// A routine whose name is declared: its place among the headings, and how many routines are around what it declares.
+#[derive(Clone, Copy, Debug, PartialEq, Eq)]
+struct Begun {
+    head: usize,
+    level: u32,
+}
+
+/// The formals of a routine, and the numbers of their variables.
+#[derive(Drop)]
+struct Formals {
+    list: Vec<Formal>,
+    numbers: Items<u32>,
+}
+
+impl Formals {
+    fn add(&mut self, formal: Formal, number: u32) -> Result<(), Fault>
+        ensures list { OnOk result (self.new.list.items ≡ self.old.list.items ++ formal ∷ []) }
+        ensures memory { IfErr result IsMemory }
+    {
+        if self.numbers.push(number).is_err() {
+            return Err(Fault::Memory(AllocError));
+        }
+        match push_formal(&mut self.list, formal) {
+            Ok(()) => Ok(()),
+            Err(error) => Err(Fault::Memory(error)),
+        }
+    }
+}
+
+/// What a formal is as a variable.
+fn kind_of(by_var: bool) -> VarKind
+    ensures { result ≡ formal.kind_of by_var }
+{
+    if by_var { VarKind::Var } else { VarKind::Value }
+}
+
 /// What a call needs of a routine.
 #[derive(Clone, Copy, Debug, PartialEq, Eq)]
 pub struct Callee {
@@ -77,12 +123,16 @@ pub struct Callee {
     pub result: u32,
 }
 
-fn push_head(heads: &mut Vec<Head>, head: Head) -> Result<(), AllocError> {
+fn push_head(heads: &mut Vec<Head>, head: Head) -> Result<(), AllocError>
+    ensures { OnOk result (heads.new.items ≡ heads.old.items ++ head ∷ []) }
+{
     heads.push(head)?;
     Ok(())
 }
 
-fn push_formal(formals: &mut Vec<Formal>, formal: Formal) -> Result<(), AllocError> {
+fn push_formal(formals: &mut Vec<Formal>, formal: Formal) -> Result<(), AllocError>
+    ensures { OnOk result (formals.new.items ≡ formals.old.items ++ formal ∷ []) }
+{
     formals.push(formal)?;
     Ok(())
 }
@@ -90,6 +140,7 @@ fn push_formal(formals: &mut Vec<Formal>, formal: Formal) -> Result<(), AllocErr
 /// Tests a heading that declares its name: a function has a result type, and not too many routines are around it.
 fn heading_allowed(routine: &Routine, around: u32) -> Result<(), Fault>
     ensures value { Gives (λ u. u) (allowed.heading_allowed (out-Routine routine.now) around) result }
+    ensures low { OnOk result (around < 16) }
 {
     if routine.function && routine.result.is_none() {
         return Err(Rule::Kind.broken(routine.name.start));
@@ -144,6 +195,38 @@ impl<'t> Seen<'t> {
         at(head.formals.as_slice(), place).copied()
     }
 
+    /// The names of a routine's own block: its formals, and what the block declares.
+    #[tactic(auto, unfolding(crate::specs::Sight::sight))]
+    fn own_scope(
+        &self,
+        made: &mut Made,
+        owner: Owner,
+        routine: &Routine,
+        block: Option<&Block>,
+    ) -> Result<Scope, Fault>
+        ensures names { IfOk result (λ s. s.names ≡ own_names (sight self.now) routine.now (option_copied block.entry)) }
+        ensures memory { IfErr result IsMemory }
+    {
+        let mut scope = Scope::new(self.alloc, owner.routine);
+        self.note_formals(made, &mut scope, routine.formals.as_slice())?;
+        if let Some(block) = block {
+            self.note_block(made, &mut scope, block)?;
+        }
+        Ok(scope)
+    }
+
+    /// The type of a function's result, which is a scalar.
+    #[tactic(auto, unfolding(crate::specs::Routine::result_type, crate::specs::Sight::sight))]
+    fn result_type(&self, made: &mut Made, of_type: Span) -> Result<u32, Fault>
+        ensures value { Gives (λ t. t) (allowed.result_type (sight self.now) of_type) result }
+    {
+        let number = self.named_type(made, of_type)?;
+        if self.types.host(number).is_none() {
+            return Err(Rule::Type.broken(of_type.start));
+        }
+        Ok(number)
+    }
+
     /// The result of a function, inside its block.
     #[tactic(auto, unfolding(crate::specs::Sight::sight))]
     pub fn result_of(&self, head: usize) -> Option<Variable>
@@ -155,13 +238,6 @@ impl<'t> Seen<'t> {
 }
 
 impl<'t> Checker<'t> {
-    /// Takes note that a function's block assigns to its name.
-    pub fn assign_result(&mut self, head: usize) {
-        if let Some(head) = self.seen.heads.get_mut(head) {
-            head.assigned = true;
-        }
-    }
-
     /// A heading with its block, if it has one; `later` is the block of a `forward` heading's body.
     #[cycle(block)]
     pub fn routine(
@@ -203,42 +279,71 @@ impl<'t> Checker<'t> {
         routine: &Routine,
         number: u32,
         block: Option<&Block>,
-    ) -> Result<(usize, Scope), Fault> {
+    ) -> Result<(usize, Scope), Fault>
+        ensures value { Meets (λ h. (sight self.new.seen, h.1.names)) (HeadingMay (sight self.old.seen) routine.now (option_copied block.entry)) result }
+    {
+        let begun = self.begun(routine)?;
+        let owner = Owner {
+            routine: number,
+            level: begun.level,
+        };
+        let scope = self.seen.own_scope(&mut self.made, owner, routine, block)?;
+        self.push_scope(scope)?;
+        let formals = self.formals(owner, routine.formals.as_slice())?;
+        let scope = self.pop_scope(number);
+        let result = self.result(owner, routine.name, routine.result)?;
+        self.add_head(Head {
+            name: routine.name,
+            routine: number,
+            level: owner.level,
+            formals: formals.list,
+            numbers: formals.numbers,
+            result,
+            waiting: None,
+            has_body: false,
+            inside: false,
+        })?;
+        Ok((begun.head, scope))
+    }
+
+    /// A routine that callers see from now on.
+    #[tactic(auto, unfolding(crate::specs::Sight::sight))]
+    fn add_head(&mut self, head: Head) -> Result<(), Fault>
+        ensures headed { OnOk result (sight self.new.seen ≡ headed (sight self.old.seen) (heading_of head)) }
+        ensures memory { IfErr result IsMemory }
+    {
+        match push_head(&mut self.seen.heads, head) {
+            Ok(()) => Ok(()),
+            Err(error) => Err(Fault::Memory(error)),
+        }
+    }
+
+    /// A heading that declares its name.
+    #[tactic(auto, unfolding(crate::specs::Headings::begun, crate::specs::Sight::sight))]
+    fn begun(&mut self, routine: &Routine) -> Result<Begun, Fault>
+        ensures value { Gives (λ b. sight self.new.seen) (begun (sight self.old.seen) routine.now) result }
+        ensures level { IfOk result (λ b. b.level ≡ (sight self.old.seen).level + 1) }
+    {
         let name = routine.name;
         self.seen.claim(&mut self.made, name)?;
-        heading_allowed(routine, self.made.frame.level)?;
+        let level = self.seen.level;
+        heading_allowed(routine, level)?;
         let head = self.seen.heads.len();
         let function = routine.function;
         self.seen
             .define(&mut self.made, name, Meaning::Routine { head, function })?;
-        let mut scope = Scope::new(self.seen.alloc, number);
-        self.note_formals(&mut scope, routine.formals.as_slice())?;
-        if let Some(block) = block {
-            self.note_block(&mut scope, block)?;
-        }
-        let mut made = Head {
-            name,
-            routine: number,
-            level: self.made.frame.level.saturating_add(1),
-            formals: Vec::new(self.seen.alloc),
-            numbers: Items::new(self.seen.alloc),
-            result: None,
-            waiting: None,
-            has_body: false,
-            inside: false,
-            assigned: false,
-        };
-        self.push_scope(scope)?;
-        self.formals(&mut made, routine.formals.as_slice())?;
-        let scope = self.pop_scope(number);
-        if let Some(of_type) = routine.result {
-            made.result = Some(self.result(name, number, of_type)?);
-        }
-        push_head(&mut self.seen.heads, made).map_err(Fault::Memory)?;
-        Ok((head, scope))
+        Ok(Begun {
+            head,
+            level: level + 1,
+        })
     }
 
-    pub fn push_scope(&mut self, scope: Scope) -> Result<(), Fault> {
+    /// A block inside the one at hand.
+    #[tactic(auto, unfolding(crate::specs::Sight::sight))]
+    pub fn push_scope(&mut self, scope: Scope) -> Result<(), Fault>
+        ensures inside { OnOk result (sight self.new.seen ≡ inside (sight self.old.seen) scope.names (labelled scope)) }
+        ensures memory { IfErr result IsMemory }
+    {
         match self.seen.scopes.push(scope) {
             Ok(()) => Ok(()),
             Err(_) => Err(Fault::Memory(AllocError)),
@@ -246,56 +351,135 @@ impl<'t> Checker<'t> {
     }
 
     /// The innermost block's names, which are taken off.
-    pub fn pop_scope(&mut self, number: u32) -> Scope {
+    #[tactic(auto, unfolding(crate::specs::Sight::sight))]
+    pub fn pop_scope(&mut self, number: u32) -> Scope
+        ensures names { result.names ≡ innermost (sight self.old.seen).blocks }
+        ensures outside { sight self.new.seen ≡ outside (sight self.old.seen) }
+    {
         match self.seen.scopes.pop() {
             Some(scope) => scope,
             None => Scope::new(self.seen.alloc, number),
         }
     }
 
-    fn formals(&mut self, head: &mut Head, sections: &[Section]) -> Result<(), Fault> {
+    /// The formals of a routine.
+    fn formals(&mut self, owner: Owner, sections: &[Section]) -> Result<Formals, Fault>
+        ensures value { Meets (λ f. (sight self.new.seen, f.list.items)) (InTurn (SectionMay owner.level) (sight self.old.seen, []) sections.now) result }
+    {
+        let mut formals = Formals {
+            list: Vec::new(self.seen.alloc),
+            numbers: Items::new(self.seen.alloc),
+        };
         for section in sections {
-            self.claim_names(section.names.as_slice())?;
-            let of_type = self.seen.named_type(&mut self.made, section.of_type)?;
-            for name in section.names.as_slice() {
-                self.formal_declared(head, *name, section.by_var, of_type)?;
-            }
+            self.section_declared(owner, section, &mut formals)?;
+        }
+        Ok(formals)
+    }
+
+    fn section_declared(
+        &mut self,
+        owner: Owner,
+        section: &Section,
+        formals: &mut Formals,
+    ) -> Result<(), Fault>
+        ensures value { Meets (λ u. (sight self.new.seen, formals.new.list.items)) (SectionMay owner.level (sight self.old.seen, formals.old.list.items) section.now) result }
+    {
+        let names = section.names.as_slice();
+        self.claim_names(names)?;
+        let of_type = self.seen.named_type(&mut self.made, section.of_type)?;
+        let formal = Formal {
+            by_var: section.by_var,
+            of_type,
+        };
+        self.formals_declared(owner, names, formal, formals)?;
+        Ok(())
+    }
+
+    fn formals_declared(
+        &mut self,
+        owner: Owner,
+        names: &[Span],
+        formal: Formal,
+        formals: &mut Formals,
+    ) -> Result<(), Fault>
+        ensures value { OnOk result (InTurn (IsFormal owner.level formal) (sight self.old.seen, formals.old.list.items) names.now (Ok (sight self.new.seen, formals.new.list.items))) }
+        ensures memory { IfErr result IsMemory }
+    {
+        for name in names {
+            self.formal_declared(owner, *name, formal, formals)?;
         }
         Ok(())
     }
 
     /// Declares names whose type is still to be read.
-    pub fn claim_names(&mut self, names: &[Span]) -> Result<(), Fault> {
+    pub fn claim_names(&mut self, names: &[Span]) -> Result<(), Fault>
+        ensures value { Gives (λ u. sight self.new.seen) (led_by name_claimed (sight self.old.seen) names.now) result }
+    {
         for name in names {
-            self.seen.claim(&mut self.made, *name)?;
-            self.seen.define(&mut self.made, *name, Meaning::Untyped)?;
+            self.claim_name(*name)?;
         }
         Ok(())
     }
 
+    #[tactic(auto, unfolding(crate::specs::Declarations::name_claimed))]
+    fn claim_name(&mut self, name: Span) -> Result<(), Fault>
+        ensures value { Gives (λ u. sight self.new.seen) (name_claimed (sight self.old.seen) name) result }
+    {
+        self.seen.claim(&mut self.made, name)?;
+        self.seen.define(&mut self.made, name, Meaning::Untyped)
+    }
+
     fn formal_declared(
         &mut self,
-        head: &mut Head,
+        owner: Owner,
         name: Span,
-        by_var: bool,
-        of_type: u32,
-    ) -> Result<(), Fault> {
-        let kind = if by_var { VarKind::Var } else { VarKind::Value };
-        let variable = self.made.add_variable(name, head.routine, kind, of_type)?;
+        formal: Formal,
+        formals: &mut Formals,
+    ) -> Result<(), Fault>
+        ensures value { OnOk result (IsFormal owner.level formal (sight self.old.seen, formals.old.list.items) name (Ok (sight self.new.seen, formals.new.list.items))) }
+        ensures memory { IfErr result IsMemory }
+    {
+        let Formal { by_var, of_type } = formal;
+        let kind = kind_of(by_var);
+        let number = self.made.add_variable(name, owner.routine, kind, of_type)?;
+        let variable = Variable {
+            number,
+            at: name.start,
+            level: owner.level,
+            kind,
+            of_type,
+        };
         self.seen
             .define(&mut self.made, name, Meaning::Variable(variable))?;
-        head.numbers.push(variable.number).map_err(Fault::Memory)?;
-        push_formal(&mut head.formals, Formal { by_var, of_type }).map_err(Fault::Memory)
+        formals.add(formal, number)?;
+        Ok(())
     }
 
     /// The variable for the result of a function, whose type is a scalar.
-    fn result(&mut self, name: Span, routine: u32, of_type: Span) -> Result<Variable, Fault> {
-        let number = self.seen.named_type(&mut self.made, of_type)?;
-        if self.seen.types.host(number).is_none() {
-            return Err(Rule::Type.broken(of_type.start));
-        }
-        self.made
-            .add_variable(name, routine, VarKind::Result, number)
+    #[tactic(auto, unfolding(crate::specs::Headings::result_read))]
+    fn result(
+        &mut self,
+        owner: Owner,
+        name: Span,
+        of_type: Option<Span>,
+    ) -> Result<Option<Variable>, Fault>
+        ensures value { Gives (λ x. option_map (λ y. y.of_type) x) (result_read (sight self.old.seen) of_type) result }
+        ensures variable { IfOk result (λ x. IfSome x (λ y. y ≡ result_of owner.level name y.number y.of_type)) }
+        ensures kept { self.new.seen ≡ self.old.seen }
+    {
+        let Some(of_type) = of_type else {
+            return Ok(None);
+        };
+        let of_type = self.seen.result_type(&mut self.made, of_type)?;
+        let kind = VarKind::Result;
+        let number = self.made.add_variable(name, owner.routine, kind, of_type)?;
+        Ok(Some(Variable {
+            number,
+            at: name.start,
+            level: owner.level,
+            kind,
+            of_type,
+        }))
     }
 
     /// A heading with the word `forward` in place of a block.
@@ -325,6 +509,7 @@ impl<'t> Checker<'t> {
         let outer = self.exchange_frame(frame);
         self.push_scope(scope)?;
         let body = self.block(block, Some(head))?;
+        self.note_threats().map_err(Fault::Memory)?;
         if let Some(made) = self.seen.heads.get_mut(head) {
             made.inside = false;
         }
@@ -355,8 +540,12 @@ impl<'t> Checker<'t> {
 
     /// Tests that a function's block assigned to its name.
     pub fn result_assigned(&self, head: Option<usize>) -> Result<(), Fault> {
-        match head.and_then(|head| self.seen.heads.get(head)) {
-            Some(head) => head.result_assigned(),
+        let Some(head) = head else {
+            return Ok(());
+        };
+        let assigned = self.made.assigned.contains_key(&head);
+        match self.seen.heads.get(head) {
+            Some(head) => head.result_assigned(assigned),
             None => Ok(()),
         }
     }

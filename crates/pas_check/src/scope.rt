@@ -1,8 +1,10 @@
 ghost use Rattle.std.specs.Prelude.{◌≡◌, [], OnErr, OnOk, Some, map, reverse};
 ghost use Rattle.std.specs.Option.{option_copied};
-ghost use Rattle.pas_check.specs.Labels.{first_scope};
+ghost use Rattle.pas_check.specs.Declarations.{in_innermost};
+ghost use Rattle.pas_check.specs.Labels.{first_scope, labelled};
 ghost use Rattle.pas_check.specs.Names as spec;
 ghost use Rattle.pas_check.specs.Names.{ended, found_in, noted, with_meaning};
+ghost use Rattle.pas_check.specs.Sight.{names_around};
 
 use crate::label::LabelDecl;
 use crate::meaning::Meaning;
@@ -143,4 +145,34 @@ pub fn innermost(scopes: &[Scope]) -> Option<&Scope>
         Some((innermost, _)) => Some(innermost),
         None => None,
     }
+}
+
+/// Gives a name its meaning in the innermost of these blocks, which stands last.
+pub fn end_innermost(
+    alloc: Global,
+    scopes: &mut Vec<Scope>,
+    name: &[u8],
+    at: u32,
+    meaning: Meaning,
+) -> Result<(), AllocError>
+    ensures names { OnOk result (names_around scopes.new.items ≡ in_innermost (ended name.now at meaning) (names_around scopes.old.items)) }
+    ensures labels { OnOk result (map labelled (reverse scopes.new.items) ≡ map labelled (reverse scopes.old.items)) }
+{
+    let Some(scope) = scopes.pop() else {
+        return Ok(());
+    };
+    let Scope {
+        routine,
+        mut names,
+        labels,
+        forwards,
+    } = scope;
+    names.end(alloc, name, at, meaning)?;
+    scopes.push(Scope {
+        routine,
+        names,
+        labels,
+        forwards,
+    })?;
+    Ok(())
 }

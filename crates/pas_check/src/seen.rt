@@ -1,6 +1,7 @@
 //! What the tests see where the walk stands, and what is made on the way.
 
-ghost use Rattle.std.specs.Prelude.{◌≡◌, IfErr, IfOk, OnOk};
+ghost use Rattle.std.specs.Prelude.{◌≡◌, IfErr, OnOk};
+ghost use Rattle.pas_check.specs.Declarations.{defined};
 ghost use Rattle.pas_check.specs.Expr.{claimed, meant};
 ghost use Rattle.pas_check.specs.Names as spec;
 ghost use Rattle.pas_check.specs.Outcome.{Gives, IsMemory};
@@ -9,10 +10,10 @@ ghost use Rattle.pas_check.specs.Sight.{innermost, parts_at, sight};
 
 use crate::fault::{Fault, Rule};
 use crate::frame::Frame;
-use crate::meaning::{Meaning, Variable};
+use crate::meaning::Meaning;
 use crate::names::{lower_case, spelling};
 use crate::routine::Head;
-use crate::scope::{Scope, denoted, innermost};
+use crate::scope::{Scope, denoted, end_innermost, innermost};
 use crate::types::Types;
 use indexmap::IndexMap;
 use pas_program::{Assert, Routine, VarDef, VarKind};
@@ -30,12 +31,14 @@ pub struct Seen<'t> {
     pub types: Types,
     /// The procedures and functions by their headings.
     pub heads: Vec<Head>,
-    /// The routine in whose block the walk is.
-    pub routine: u32,
+    /// How many routines are around the place of the walk.
+    pub level: u32,
     /// Whether the walk is inside an assertion.
     pub asserting: bool,
-    /// The control variables of the `for` statements around.
+    /// The control variables of the `for` statements around, by their places.
     pub looping: IndexMap<u32, ()>,
+    /// The variables that a routine inside their own threatens, by their places, of the routines whose blocks have ended.
+    pub threatened: IndexMap<u32, ()>,
 }
 
 /// What is made of the program so far.
@@ -46,8 +49,10 @@ pub struct Made {
     pub routines: Items<Routine>,
     pub asserts: Items<Assert>,
     pub frame: Frame,
-    /// The variables that a routine inside their own threatens.
-    pub threatened: IndexMap<u32, ()>,
+    /// The variables that the routine at hand threatens and that are not its own, by their places.
+    pub threats: Vec<u32>,
+    /// The functions whose results are assigned to, by their headings.
+    pub assigned: IndexMap<usize, ()>,
     /// The name that was looked up last, in lower case.
     pub lower: Vec<u8>,
 }
@@ -65,28 +70,26 @@ impl Made {
         }
     }
 
-    /// A new variable of the routine at hand.
-    pub fn variable(&mut self, name: Span, kind: VarKind, of_type: u32) -> Result<Variable, Fault>
-        ensures of_type { IfOk result (λ x. x.of_type ≡ of_type) }
+    /// The number of a new variable of the routine at hand.
+    pub fn add_own(&mut self, name: Span, kind: VarKind, of_type: u32) -> Result<u32, Fault>
         ensures memory { IfErr result IsMemory }
     {
         let routine = self.frame.routine;
-        let variable = self.add_variable(name, routine, kind, of_type)?;
-        match self.frame.take(kind, variable.number) {
-            Ok(()) => Ok(variable),
+        let number = self.add_variable(name, routine, kind, of_type)?;
+        match self.frame.take(kind, number) {
+            Ok(()) => Ok(number),
             Err(error) => Err(Fault::Memory(error)),
         }
     }
 
-    /// A new variable of any routine.
+    /// The number of a new variable of any routine.
     pub fn add_variable(
         &mut self,
         name: Span,
         routine: u32,
         kind: VarKind,
         of_type: u32,
-    ) -> Result<Variable, Fault>
-        ensures value { IfOk result (λ x. (x.routine ≡ routine) × (x.kind ≡ kind) × (x.of_type ≡ of_type)) }
+    ) -> Result<u32, Fault>
         ensures memory { IfErr result IsMemory }
     {
         let Ok(number) = u32::try_from(self.vars.len()) else {
@@ -100,12 +103,7 @@ impl Made {
             place: name.start,
         };
         match self.vars.push(var) {
-            Ok(()) => Ok(Variable {
-                number,
-                routine,
-                kind,
-                of_type,
-            }),
+            Ok(()) => Ok(number),
             Err(error) => Err(Fault::Memory(error)),
         }
     }
@@ -180,14 +178,16 @@ impl<'t> Seen<'t> {
     }
 
     /// Gives the name its meaning in the innermost block.
-    pub fn define(&mut self, made: &mut Made, span: Span, meaning: Meaning) -> Result<(), Fault> {
+    #[tactic(auto, unfolding(crate::specs::Declarations::defined, crate::specs::Sight::sight))]
+    pub fn define(&mut self, made: &mut Made, span: Span, meaning: Meaning) -> Result<(), Fault>
+        ensures defined { OnOk result (sight self.new ≡ defined (sight self.old) span meaning) }
+        ensures memory { IfErr result IsMemory }
+    {
         made.spell(self.text, span)?;
-        match self.scopes.last_mut() {
-            Some(scope) => scope
-                .names
-                .end(self.alloc, made.lower.as_slice(), span.start, meaning)
-                .map_err(Fault::Memory),
-            None => Ok(()),
+        let name = made.lower.as_slice();
+        match end_innermost(self.alloc, &mut self.scopes, name, span.start, meaning) {
+            Ok(()) => Ok(()),
+            Err(error) => Err(Fault::Memory(error)),
         }
     }
 }

@@ -1,12 +1,13 @@
 //! Statements (ISO 7185, 6.8).
 
-ghost use Rattle.std.specs.Prelude.{◌≡◌, is_some, map};
-ghost use Rattle.std.specs.Ordering.{int_eq};
-ghost use Rattle.indexmap.specs.IndexMap.{get};
+ghost use Rattle.std.specs.Prelude.{◌≡◌, OnOk, map};
+ghost use Rattle.std.specs.Option.{option_map};
 ghost use Rattle.pas_check.specs.Expr.{found};
-ghost use Rattle.pas_check.specs.Outcome.{Gives};
+ghost use Rattle.pas_check.specs.Outcome.{Gives, each};
 ghost use Rattle.pas_check.specs.Sight.{sight};
 ghost use Rattle.pas_check.specs.Statement as spec;
+ghost use Rattle.pas_check.specs.Statements as whole;
+ghost use Rattle.pas_check.specs.Statements.{in_branch, in_turn, stated, stated_body};
 
 use crate::access::Reached;
 use crate::checker::Checker;
@@ -14,25 +15,20 @@ use crate::expr::Typed;
 use crate::fault::{Fault, Rule};
 use crate::meaning::{Meaning, Variable};
 use crate::seen::{Made, Seen};
-use indexmap::IndexMap;
-use pas_program::{Access, Arm, Assert, Body, Expr, Statement, VarKind};
-use pas_tree::{Assertion, Constant, Element};
+use pas_program::{Assert, Body, Expr, Statement};
+use pas_tree::Assertion;
 use px_base::Span;
 use sqlite_items::{Boxed, Items};
 use std::alloc::AllocError;
-
-/// A `for` without its statement.
-#[derive(Drop)]
-struct ForHead {
-    variable: Variable,
-    bound: u32,
-    first: Expr,
-    last: Expr,
-}
+use std::mem;
 
 impl<'t> Checker<'t> {
+    /// The statements of a sequence. What a test sees is the same before and after each of them.
     #[cycle(statement)]
-    pub fn sequence(&mut self, body: &[pas_tree::Statement]) -> Result<Items<Statement>, Fault> {
+    pub fn sequence(&mut self, body: &[pas_tree::Statement]) -> Result<Items<Statement>, Fault>
+        ensures value { Gives (λ list. tt) (in_turn (map stated body.now) (sight self.old.seen)) result }
+        ensures kept { OnOk result (sight self.new.seen ≡ sight self.old.seen) }
+    {
         let mut list = Items::new(self.seen.alloc);
         for statement in body {
             let checked = self.statement(statement)?;
@@ -42,11 +38,11 @@ impl<'t> Checker<'t> {
     }
 
     #[cycle(statement)]
-    fn statement(&mut self, statement: &pas_tree::Statement) -> Result<Statement, Fault> {
-        let label = match statement.label {
-            Some(label) => Some(self.seen.placed_label(label)?),
-            None => None,
-        };
+    pub fn statement(&mut self, statement: &pas_tree::Statement) -> Result<Statement, Fault>
+        ensures value { Gives (λ s. tt) (stated statement.now (sight self.old.seen)) result }
+        ensures kept { OnOk result (sight self.new.seen ≡ sight self.old.seen) }
+    {
+        let label = self.seen.label_before(statement.label)?;
         let asserts = self.assertions(statement.asserts.as_slice())?;
         let body = self.body(&statement.body, statement.at)?;
         Ok(Statement {
@@ -58,21 +54,40 @@ impl<'t> Checker<'t> {
     }
 
     #[cycle(statement)]
-    fn boxed(&mut self, statement: &pas_tree::Statement) -> Result<Boxed<Statement>, Fault> {
+    pub fn boxed(&mut self, statement: &pas_tree::Statement) -> Result<Boxed<Statement>, Fault>
+        ensures value { Gives (λ s. tt) (stated statement.now (sight self.old.seen)) result }
+        ensures kept { OnOk result (sight self.new.seen ≡ sight self.old.seen) }
+    {
         let checked = self.statement(statement)?;
         Boxed::new(self.seen.alloc, checked).map_err(Fault::Memory)
     }
 
+    /// The `else` of an `if`, where there is one.
+    #[cycle(statement)]
+    fn branch(
+        &mut self,
+        statement: &Option<Boxed<pas_tree::Statement>>,
+    ) -> Result<Option<Boxed<Statement>>, Fault>
+        ensures value { Gives (λ s. tt) (in_branch (option_map stated statement.now) (sight self.old.seen)) result }
+        ensures kept { OnOk result (sight self.new.seen ≡ sight self.old.seen) }
+    {
+        match statement {
+            Some(statement) => Ok(Some(self.boxed(statement.get())?)),
+            None => Ok(None),
+        }
+    }
+
     /// The numbers of the assertions of a statement.
-    fn assertions(&mut self, assertions: &[Assertion]) -> Result<Items<u32>, Fault> {
+    fn assertions(&mut self, assertions: &[Assertion]) -> Result<Items<u32>, Fault>
+        ensures value { Gives (λ list. tt) (each (whole.asserted (sight self.old.seen)) assertions.now) result }
+        ensures kept { OnOk result (sight self.new.seen ≡ sight self.old.seen) }
+    {
         let mut numbers = Items::new(self.seen.alloc);
         for assertion in assertions {
-            self.seen.asserting = true;
-            let cond = self.seen.of_host(&mut self.made, &assertion.cond, true)?;
-            self.seen.asserting = false;
+            let cond = self.asserted(assertion)?;
             let number = self
                 .add_assert(Assert {
-                    routine: self.seen.routine,
+                    routine: self.made.frame.routine,
                     sometime: assertion.sometime,
                     cond,
                     at: assertion.span.start,
@@ -83,20 +98,40 @@ impl<'t> Checker<'t> {
         Ok(numbers)
     }
 
-    fn add_assert(&mut self, assert: Assert) -> Result<u32, AllocError> {
+    /// What an assertion asserts.
+    #[tactic(auto, unfolding(crate::specs::Statements::asserted, crate::specs::Sight::sight))]
+    fn asserted(&mut self, assertion: &Assertion) -> Result<Expr, Fault>
+        ensures value { Gives (λ x. tt) (whole.asserted (sight self.old.seen) assertion.now) result }
+        ensures kept { OnOk result (sight self.new.seen ≡ sight self.old.seen) }
+    {
+        let outside = mem::replace(&mut self.seen.asserting, true);
+        let cond = self.seen.of_host(&mut self.made, &assertion.cond, true)?;
+        self.seen.asserting = outside;
+        Ok(cond)
+    }
+
+    fn add_assert(&mut self, assert: Assert) -> Result<u32, AllocError>
+        ensures kept { self.new.seen ≡ self.old.seen }
+    {
         let number = u32::try_from(self.made.asserts.len()).map_err(|_| AllocError)?;
         self.made.asserts.push(assert)?;
         Ok(number)
     }
 
+    #[tactic(auto, unfolding(crate::specs::Statements::stated, crate::specs::Statements::stated_body, crate::specs::Statements::stated_arm))]
     #[cycle(statement)]
-    fn body(&mut self, body: &pas_tree::Body, at: Span) -> Result<Body, Fault> {
+    fn body(&mut self, body: &pas_tree::Body, at: Span) -> Result<Body, Fault>
+        ensures value { Gives (λ b. tt) (stated_body body.now at.start (sight self.old.seen)) result }
+        ensures kept { OnOk result (sight self.new.seen ≡ sight self.old.seen) }
+    {
         match body {
             pas_tree::Body::Empty => Ok(Body::Empty),
             pas_tree::Body::Call { name, actuals } => {
                 self.seen.call(&mut self.made, *name, actuals.as_slice())
             }
-            pas_tree::Body::Assign { to, value } => self.assignment(to, value),
+            pas_tree::Body::Assign { to, value } => {
+                self.seen.assignment(&mut self.made, to, value)
+            }
             pas_tree::Body::Goto { label } => self.seen.goto(*label, at.start),
             pas_tree::Body::Begin { body } => Ok(Body::Begin {
                 body: self.sequence(body.as_slice())?,
@@ -105,10 +140,7 @@ impl<'t> Checker<'t> {
             pas_tree::Body::If { cond, yes, no } => Ok(Body::If {
                 cond: self.seen.of_host(&mut self.made, cond, true)?,
                 yes: self.boxed(yes.get())?,
-                no: match no {
-                    Some(no) => Some(self.boxed(no.get())?),
-                    None => None,
-                },
+                no: self.branch(no)?,
             }),
             pas_tree::Body::Case { of, arms } => {
                 let (of, boolean) = self.seen.scalar(&mut self.made, of)?;
@@ -131,107 +163,37 @@ impl<'t> Checker<'t> {
                 last,
                 body,
             } => {
-                let head = self.for_head(*control, first, last, at)?;
-                self.enter_loop(head.variable).map_err(Fault::Memory)?;
-                let body = self.boxed(body.get())?;
-                self.leave_loop(head.variable);
-                Ok(Body::For {
-                    control: head.variable.number,
-                    bound: head.bound,
-                    first: head.first,
-                    down: *down,
-                    last: head.last,
-                    body,
-                })
+                let head = self
+                    .seen
+                    .for_head(&mut self.made, *control, first, last, at)?;
+                self.for_statement(head, *down, body.get())
             }
         }
-    }
-
-    /// A `for` whose word stands at `at`, with its control variable and its two bounds.
-    fn for_head(
-        &mut self,
-        control: Span,
-        first: &pas_tree::Expr,
-        last: &pas_tree::Expr,
-        at: Span,
-    ) -> Result<ForHead, Fault> {
-        let (variable, boolean) = self.seen.control(&mut self.made, control)?;
-        let bound = self.made.variable(at, VarKind::Bound, variable.of_type)?;
-        let first = self.seen.of_host(&mut self.made, first, boolean)?;
-        let last = self.seen.of_host(&mut self.made, last, boolean)?;
-        Ok(ForHead {
-            variable,
-            bound: bound.number,
-            first,
-            last,
-        })
-    }
-
-    /// An assignment.
-    fn assignment(&mut self, to: &pas_tree::Access, value: &pas_tree::Expr) -> Result<Body, Fault> {
-        let (body, function) = self.seen.assignment(&mut self.made, to, value)?;
-        if let Some(head) = function {
-            self.assign_result(head);
-        }
-        Ok(body)
-    }
-
-    /// The arms of a `case` whose selector has this host.
-    #[cycle(statement)]
-    fn arms(&mut self, arms: &[Element], boolean: bool) -> Result<Items<Arm>, Fault> {
-        let mut seen = IndexMap::new(self.seen.alloc);
-        let mut list = Items::new(self.seen.alloc);
-        for arm in arms {
-            let consts = self.case_constants(arm.consts.as_slice(), boolean, &mut seen)?;
-            let body = self.statement(&arm.body)?;
-            list.push(Arm { consts, body }).map_err(Fault::Memory)?;
-        }
-        Ok(list)
-    }
-
-    /// The constants of an arm, which have the selector's host and do not stand in `seen`.
-    fn case_constants(
-        &mut self,
-        constants: &[Constant],
-        boolean: bool,
-        seen: &mut IndexMap<i32, ()>,
-    ) -> Result<Items<i32>, Fault> {
-        let mut values = Items::new(self.seen.alloc);
-        for constant in constants {
-            let value = self
-                .seen
-                .case_constant(&mut self.made, constant, boolean, seen)?;
-            see(seen, value).map_err(Fault::Memory)?;
-            values.push(value).map_err(Fault::Memory)?;
-        }
-        Ok(values)
     }
 }
 
 impl<'t> Seen<'t> {
-    /// A constant of a `case`, which has the selector's host and does not stand in `seen`.
-    fn case_constant(
+    /// An assignment. Takes note of the function whose result it assigns to, if it does so.
+    #[tactic(auto, unfolding(crate::specs::Statements::assignment))]
+    fn assignment(
         &self,
         made: &mut Made,
-        constant: &Constant,
-        boolean: bool,
-        seen: &IndexMap<i32, ()>,
-    ) -> Result<i32, Fault>
-        ensures value { Gives (λ z. z) (spec.case_constant (sight self.now) (λ z. is_some (get int_eq seen.now z)) boolean constant.now) result }
+        to: &pas_tree::Access,
+        value: &pas_tree::Expr,
+    ) -> Result<Body, Fault>
+        ensures value { Gives (λ b. tt) (whole.assignment (sight self.now) to.now value.now) result }
     {
-        let value = self.constant(made, constant)?;
-        if value.boolean != boolean {
-            return Err(Rule::Type.broken(constant.span.start));
+        let (body, function) = self.target_and_value(made, to, value)?;
+        match function {
+            Some(head) => assign_result(made, head).map_err(Fault::Memory)?,
+            None => (),
         }
-        if seen.contains_key(&value.value) {
-            return Err(Rule::CaseConstant.broken(constant.span.start));
-        }
-        Ok(value.value)
+        Ok(body)
     }
 
     /// The target and the value of an assignment, and the function whose result is the target, if it is one.
     #[tactic(auto, unfolding(crate::specs::Statement::assigned))]
-    fn assignment(
+    fn target_and_value(
         &self,
         made: &mut Made,
         to: &pas_tree::Access,
@@ -287,7 +249,7 @@ impl<'t> Seen<'t> {
     }
 }
 
-fn see(seen: &mut IndexMap<i32, ()>, value: i32) -> Result<(), AllocError> {
-    seen.insert(value, ())?;
+fn assign_result(made: &mut Made, head: usize) -> Result<(), AllocError> {
+    made.assigned.insert(head, ())?;
     Ok(())
 }

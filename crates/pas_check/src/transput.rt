@@ -1,10 +1,12 @@
 //! Procedure calls, `read` and `write` among them (ISO 7185, 6.8.2.3 and 6.9).
 
 ghost use Rattle.std.specs.Prelude.{◌≡◌, false, map};
-ghost use Rattle.pas_check.specs.Expr.{given};
-ghost use Rattle.pas_check.specs.Outcome.{Gives};
+ghost use Rattle.std.specs.Option.{option_map};
+ghost use Rattle.pas_check.specs.Expr.{found, given, value_given};
+ghost use Rattle.pas_check.specs.Outcome.{Gives, each};
 ghost use Rattle.pas_check.specs.Sight.{sight};
 ghost use Rattle.pas_check.specs.Statement as spec;
+ghost use Rattle.pas_check.specs.Statements as whole;
 
 use crate::fault::{Fault, Rule};
 use crate::meaning::{Meaning, Transput};
@@ -29,10 +31,37 @@ fn unquoted(alloc: Global, quoted: &[u8]) -> Result<Items<u8>, AllocError> {
     Ok(bytes)
 }
 
+/// Whether it may stand without actuals.
+fn is_line(transput: Transput) -> bool
+    ensures { result ≡ whole.is_line transput }
+{
+    match transput {
+        Transput::Readln | Transput::Writeln => true,
+        Transput::Read | Transput::Write => false,
+    }
+}
+
 impl<'t> Seen<'t> {
     /// A procedure with its actuals.
-    pub fn call(&self, made: &mut Made, name: Span, actuals: &[Actual]) -> Result<Body, Fault> {
-        match self.meaning(made, name)? {
+    #[tactic(auto, unfolding(crate::specs::Statements::call))]
+    pub fn call(&self, made: &mut Made, name: Span, actuals: &[Actual]) -> Result<Body, Fault>
+        ensures value { Gives (λ b. tt) (whole.call (sight self.now) name (map (given (sight self.now)) actuals.now)) result }
+    {
+        let meaning = self.meaning(made, name)?;
+        self.called_by(made, meaning, name, actuals)
+    }
+
+    #[tactic(auto, unfolding(crate::specs::Statements::called_by))]
+    fn called_by(
+        &self,
+        made: &mut Made,
+        meaning: Meaning,
+        name: Span,
+        actuals: &[Actual],
+    ) -> Result<Body, Fault>
+        ensures value { Gives (λ b. tt) (whole.called_by (sight self.now) meaning name.start (map (given (sight self.now)) actuals.now)) result }
+    {
+        match meaning {
             Meaning::Routine {
                 head,
                 function: false,
@@ -65,14 +94,17 @@ impl<'t> Seen<'t> {
         })
     }
 
+    #[tactic(auto, unfolding(crate::specs::Statements::transput_call))]
     fn transput(
         &self,
         made: &mut Made,
         transput: Transput,
         name: Span,
         actuals: &[Actual],
-    ) -> Result<Body, Fault> {
-        let line = matches!(transput, Transput::Readln | Transput::Writeln);
+    ) -> Result<Body, Fault>
+        ensures value { Gives (λ b. tt) (whole.transput_call (sight self.now) transput name.start (map (given (sight self.now)) actuals.now)) result }
+    {
+        let line = is_line(transput);
         if actuals.is_empty() && !line {
             return Err(Rule::ActualCount.broken(name.start));
         }
@@ -108,22 +140,45 @@ impl<'t> Seen<'t> {
         Ok(reached.access)
     }
 
-    fn write(&self, made: &mut Made, actuals: &[Actual], line: bool) -> Result<Body, Fault> {
+    /// Scalars and strings.
+    fn write(&self, made: &mut Made, actuals: &[Actual], line: bool) -> Result<Body, Fault>
+        ensures value { Gives (λ b. tt) (each whole.written (map (given (sight self.now)) actuals.now)) result }
+    {
         let mut items = Items::new(self.alloc);
         for actual in actuals {
-            let value = self.written(made, &actual.value)?;
-            let width = match &actual.width {
-                Some(width) => Some(self.of_host(made, width, false)?),
-                None => None,
-            };
-            items
-                .push(WriteItem { value, width })
-                .map_err(Fault::Memory)?;
+            let item = self.written(made, actual)?;
+            items.push(item).map_err(Fault::Memory)?;
         }
         Ok(Body::Write { items, line })
     }
 
-    fn written(&self, made: &mut Made, value: &ActualValue) -> Result<WriteValue, Fault> {
+    #[tactic(auto, unfolding(crate::specs::Statements::written, crate::specs::Expr::given))]
+    fn written(&self, made: &mut Made, actual: &Actual) -> Result<WriteItem, Fault>
+        ensures value { Gives (λ i. tt) (whole.written (given (sight self.now) actual.now)) result }
+    {
+        let value = self.value_written(made, &actual.value)?;
+        let width = self.width_written(made, &actual.width)?;
+        Ok(WriteItem { value, width })
+    }
+
+    /// The width of what is written, where there is one.
+    fn width_written(
+        &self,
+        made: &mut Made,
+        width: &Option<pas_tree::Expr>,
+    ) -> Result<Option<Expr>, Fault>
+        ensures value { Gives (λ w. tt) (whole.width_written (option_map (found (sight self.now)) width.now)) result }
+    {
+        match width {
+            Some(width) => Ok(Some(self.of_host(made, width, false)?)),
+            None => Ok(None),
+        }
+    }
+
+    #[tactic(auto, unfolding(crate::specs::Expr::value_given, crate::specs::Expr::found))]
+    fn value_written(&self, made: &mut Made, value: &ActualValue) -> Result<WriteValue, Fault>
+        ensures value { Gives (λ w. tt) (whole.value_written (value_given (sight self.now) value.now)) result }
+    {
         match value {
             ActualValue::Value(value) => Ok(WriteValue::Value(self.scalar(made, value)?.0)),
             ActualValue::Text(span) => Ok(WriteValue::Text {

@@ -1,0 +1,50 @@
+use Rattle.std.proofs.Common.{[], map, rules, ◌∙◌}
+use Rattle.indexmap.specs.IndexMap.{keys}
+use Rattle.pas_check.specs.Sight.{sight}
+use Rattle.pas_check.specs.Statements.{arms_in_turn, stated_arm}
+use Rattle.pas_check.proofs.Passing.{gives_wrong}
+use Rattle.pas_check.proofs.Statements.{arm_fails, arm_goes, asserts_fail, body_is, consts_fail, head_free, label_fails}
+use Rattle.pas_check.proofs.checker.Checker.+statement.Goals as goal
+
+pub statement-returns-in_err-label-clause-value : goal.statement-returns-in_err-label-clause-value
+statement-returns-in_err-label-clause-value t c =
+    gives_wrong _ _ c.from_residual.result c.in_err-label.field-0.0 (search rules) (λ own. label_fails c.args.statement.now (sight c.args.self.now.seen) c.in_err-label.field-0.0 (c.in_err-label.ensures.value own))
+
+pub statement-returns-in_err-asserts-clause-value : goal.statement-returns-in_err-asserts-clause-value
+statement-returns-in_err-asserts-clause-value t c =
+    gives_wrong _ _ c.from_residual-in_err-asserts.result c.in_err-asserts.field-0.0 (search rules) (λ own.
+    asserts_fail c.args.statement.now (sight c.args.self.now.seen) c.as_slice.result.now c.in_err-asserts.field-0.0 c.in_ok-label.ensures.value c.as_slice.ensures (c.in_err-asserts.ensures.value own))
+
+pub statement-returns-in_err-body-clause-value : goal.statement-returns-in_err-body-clause-value
+statement-returns-in_err-body-clause-value t c =
+    gives_wrong _ _ c.from_residual-in_err-body.result c.in_err-body.field-0.0 (search rules) (λ own.
+    body_is c.args.statement.now (sight c.args.self.now.seen) c.as_slice.result.now _ _ c.in_ok-label.ensures.value c.as_slice.ensures c.in_ok-asserts.ensures.value c.in_ok-asserts.ensures.kept (c.in_err-body.ensures.value own))
+
+pub statement-returns-clause-value : goal.statement-returns-clause-value
+statement-returns-clause-value t c =
+    body_is c.args.statement.now (sight c.args.self.now.seen) c.as_slice.result.now _ _ c.in_ok-label.ensures.value c.as_slice.ensures c.in_ok-asserts.ensures.value c.in_ok-asserts.ensures.kept c.in_ok-body.ensures.value
+
+pub body-returns-in_ok-head-in-For-clause-kept : goal.body-returns-in_ok-head-in-For-clause-kept
+body-returns-in_ok-head-in-For-clause-kept t c = c.for_statement.ensures.kept (head_free (sight c.args.self.now.seen) _ _ _ _ c.in_ok-head-in-For.ensures.value)
+
+pub arms-returns-in_err-consts-clause-value : goal.arms-returns-in_err-consts-clause-value
+arms-returns-in_err-consts-clause-value t c =
+    let v = sight c.args.self.now.seen in
+    gives_wrong _ _ c.from_residual.result c.in_err-consts.field-0.0 (search rules) (λ own.
+    consts_fail v c.args.boolean c.args.arms.now c.loop-arm.arm-index c.arm-item.result (arms_in_turn v c.args.boolean [] (map stated_arm c.args.arms.now)) (keys c.loop-arm.before) (sight c.loop-arm.self.seen) c.as_slice.result.now
+    c.loop-arm.invariant.kept c.loop-arm-test.true c.arm-item.is c.loop-arm.invariant.rest c.as_slice.ensures c.in_err-consts.field-0.0 (c.in_err-consts.ensures.value own))
+
+pub arms-returns-in_err-body-clause-value : goal.arms-returns-in_err-body-clause-value
+arms-returns-in_err-body-clause-value t c =
+    let v = sight c.args.self.now.seen in
+    gives_wrong _ _ c.from_residual-in_err-body.result c.in_err-body.field-0.0 (search rules) (λ own.
+    arm_fails v c.args.boolean c.args.arms.now c.loop-arm.arm-index c.arm-item.result (arms_in_turn v c.args.boolean [] (map stated_arm c.args.arms.now)) (keys c.loop-arm.before) (sight c.loop-arm.self.seen) c.as_slice.result.now
+    c.loop-arm.invariant.kept c.loop-arm-test.true c.arm-item.is c.loop-arm.invariant.rest c.as_slice.ensures _ c.in_err-body.field-0.0 c.in_ok-consts.ensures.value (c.in_err-body.ensures.value own))
+
+pub arms-loop-arm-preserved : goal.arms-loop-arm-preserved
+arms-loop-arm-preserved t c =
+    let v = sight c.args.self.now.seen in record {
+      kept = c.in_ok-body.ensures.kept ∙ c.loop-arm.invariant.kept;
+      rest = arm_goes v c.args.boolean c.args.arms.now c.loop-arm.arm-index c.arm-item.result (arms_in_turn v c.args.boolean [] (map stated_arm c.args.arms.now)) (keys c.loop-arm.before) (sight c.loop-arm.self.seen) c.as_slice.result.now
+          c.loop-arm.invariant.kept c.loop-arm-test.true c.arm-item.is c.loop-arm.invariant.rest c.as_slice.ensures _ c.in_ok-consts.ensures.value c.in_ok-body.ensures.value;
+    }

@@ -1,0 +1,7 @@
+use Rattle.std.proofs.Common.{◌≡◌, drop}
+use Rattle.pas_check.specs.Declarations.{led_by, type_declared}
+use Rattle.pas_check.specs.Sight.{sight}
+use Rattle.pas_check.proofs.checker.Checker.type_part.Given as goal
+
+abbrev pub invariant-loop-decl : goal.invariant-loop-decl
+invariant-loop-decl l = led_by type_declared (sight l.fn.self.seen) l.decls ≡ led_by type_declared (sight l.self.seen) (drop l.decl-index l.decls)
