@@ -7,6 +7,10 @@ pub mod Headings
 pub mod Loops
 pub mod Noted
 pub mod Passing
+pub mod Reaching
+pub mod ReachingMarks
+pub mod ReachingLaw
+pub mod ReachingNotes
 pub mod Scopes
 pub mod Statements
 pub mod Turns

@@ -32,7 +32,7 @@ pub data MayReach (is_sequence : Path → Bool) (p : Path) : Path → Type 0 whe
   containing : {q : Path} → IsInside p q → MayReach is_sequence p q
   member : (s : Path) (k : ℕ) → is_sequence s ≡ true → IsInside p s → MayReach is_sequence p (s ++ k ∷ [])
 
--- ---- by places, as the walk keeps it
+-- ---- by places, as the walk keeps it: Placing.antt has which places, and that they say the same as the paths
 
 -- the labels of a block by their values
 abbrev pub Labels : Type 0

@@ -10,6 +10,7 @@ pub mod Headings
 pub mod Labels
 pub mod Names
 pub mod Outcome
+pub mod Placing
 pub mod Routine
 pub mod Rules
 pub mod Sight

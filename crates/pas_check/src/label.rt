@@ -1,10 +1,15 @@
 //! Labels and where they stand (ISO 7185, 6.8.1).
 
-ghost use Rattle.std.specs.Prelude.{◌≡◌, None, OnOk, Some, map, nat_eq, reverse};
-ghost use Rattle.indexmap.specs.IndexMap.{Updates};
+ghost use Rattle.std.specs.Prelude.{◌≡◌, [], ◌∷◌, ℕ, Bool, IfOk, List, None, OnOk, Some, map, nat_eq, reverse, true};
+ghost use Rattle.std.specs.Option.{option_map};
+ghost use Rattle.indexmap.specs.IndexMap.{Updates, get};
+ghost use Rattle.pas_tree.specs.declared.statement.Statement.{Statement};
+ghost use Rattle.pas_check.specs.declared.label.LabelDecl.{LabelDecl};
 ghost use Rattle.pas_check.specs.Labels as spec;
 ghost use Rattle.pas_check.specs.Labels.{label_before, labelled};
 ghost use Rattle.pas_check.specs.Outcome.{Gives};
+ghost use Rattle.pas_check.specs.Placing as placing;
+ghost use Rattle.pas_check.specs.Placing.{Branches, IsPlacedRightly, Members, Notes, Nothing, PlacesRise, arm_of, below, content, content_of, end_of, in_order, label_mark, last_place, marks, marks_inside, member_marks, or_nothing, outline, outline_of, sequence_marks};
 ghost use Rattle.pas_check.specs.Sight.{sight};
 
 use crate::checker::Checker;
@@ -14,6 +19,7 @@ use crate::seen::Seen;
 use indexmap::IndexMap;
 use pas_program::Body;
 use pas_tree::{Label, Statement};
+use sqlite_items::Boxed;
 use std::alloc::AllocError;
 
 /// The greatest label.
@@ -47,28 +53,56 @@ pub fn place_sequence(
     labels: &mut IndexMap<u32, LabelDecl>,
     body: &[Statement],
     outermost: bool,
-) -> Result<u32, AllocError> {
+) -> Result<u32, AllocError>
+    ensures last { IfOk result (λ to. to ≡ last_place (outline body.now)) }
+    ensures noted { OnOk result (Notes labels.old (sequence_marks body.now outermost) labels.new) }
+{
+    let to = place_members(labels, body)?;
+    let from = first_place(body);
+    note_members(labels, body, from, to, outermost)?;
+    Ok(to)
+}
+
+/// The place of the first of the statements.
+fn first_place(body: &[Statement]) -> u32
+    ensures { result ≡ placing.first_place (outline body.now) }
+{
+    match body.first() {
+        Some(first) => first.at.start,
+        None => 0,
+    }
+}
+
+/// Takes note of the labels inside the members of a sequence, and answers the last place of a statement in it.
+#[cycle(place)]
+fn place_members(
+    labels: &mut IndexMap<u32, LabelDecl>,
+    body: &[Statement],
+) -> Result<u32, AllocError>
+    ensures last { IfOk result (λ to. to ≡ last_place (outline body.now)) }
+    ensures noted { (first last : ℕ) (outermost : Bool) → OnOk result (Notes labels.old (marks_inside (Members first last outermost) (outline body.now)) labels.new) }
+{
     let mut to = 0;
     for statement in body {
         to = to.max(place_inner(labels, statement)?);
     }
-    let from = body.first().map_or(0, |first| first.at.start);
-    for statement in body {
-        if let Some(label) = statement.label {
-            let at = label.at.start;
-            note(
-                labels,
-                label.value,
-                Placement {
-                    at,
-                    from,
-                    to,
-                    outermost,
-                },
-            )?;
-        }
-    }
     Ok(to)
+}
+
+/// Takes note of the labels of the members of a sequence with these places.
+fn note_members(
+    labels: &mut IndexMap<u32, LabelDecl>,
+    body: &[Statement],
+    from: u32,
+    to: u32,
+    outermost: bool,
+) -> Result<(), AllocError>
+    ensures noted { OnOk result (Notes labels.old (member_marks (Members «from» to outermost) (outline body.now)) labels.new) }
+{
+    for statement in body {
+        note_label(labels, statement.label, from, to, outermost)?;
+    }
+    Ok(())
 }
 
 /// The same for a statement that is a member of no sequence.
@@ -76,17 +110,12 @@ pub fn place_sequence(
 fn place_branch(
     labels: &mut IndexMap<u32, LabelDecl>,
     statement: &Statement,
-) -> Result<u32, AllocError> {
+) -> Result<u32, AllocError>
+    ensures last { IfOk result (λ to. to ≡ end_of statement.now) }
+    ensures noted { OnOk result (Notes labels.old (marks Branches (outline_of statement.now Nothing)) labels.new) }
+{
     let to = place_inner(labels, statement)?;
-    if let Some(label) = statement.label {
-        let placement = Placement {
-            at: label.at.start,
-            from: statement.at.start,
-            to,
-            outermost: false,
-        };
-        note(labels, label.value, placement)?;
-    }
+    note_label(labels, statement.label, statement.at.start, to, false)?;
     Ok(to)
 }
 
@@ -95,33 +124,66 @@ fn place_branch(
 fn place_inner(
     labels: &mut IndexMap<u32, LabelDecl>,
     statement: &Statement,
-) -> Result<u32, AllocError> {
-    let own = statement.at.start;
-    let last = match &statement.body {
+) -> Result<u32, AllocError>
+    ensures last { IfOk result (λ to. to ≡ end_of statement.now) }
+    ensures noted { OnOk result (Notes labels.old (below (content_of statement.now)) labels.new) }
+{
+    let last = place_body(labels, &statement.body)?;
+    Ok(last.max(statement.at.start))
+}
+
+#[tactic(auto, unfolding(crate::specs::Placing::outline_of, crate::specs::Placing::content, crate::specs::Placing::arm_of))]
+#[cycle(place)]
+fn place_body(
+    labels: &mut IndexMap<u32, LabelDecl>,
+    body: &pas_tree::Body,
+) -> Result<u32, AllocError>
+    ensures last { IfOk result (λ to. to ≡ last_place (content body.now).inner) }
+    ensures noted { OnOk result (Notes labels.old (below (content body.now)) labels.new) }
+{
+    match body {
         pas_tree::Body::Begin { body } | pas_tree::Body::Repeat { body, .. } => {
-            place_sequence(labels, body.as_slice(), false)?
+            place_sequence(labels, body.as_slice(), false)
         }
         pas_tree::Body::If { yes, no, .. } => {
             let first = place_branch(labels, yes.get())?;
-            match no {
-                Some(no) => first.max(place_branch(labels, no.get())?),
-                None => first,
-            }
+            let second = place_other(labels, no)?;
+            Ok(first.max(second))
         }
-        pas_tree::Body::Case { arms, .. } => place_arms(labels, arms.as_slice())?,
+        pas_tree::Body::Case { arms, .. } => place_arms(labels, arms.as_slice()),
         pas_tree::Body::While { body, .. } | pas_tree::Body::For { body, .. } => {
-            place_branch(labels, body.get())?
+            place_branch(labels, body.get())
         }
-        _ => own,
-    };
-    Ok(last.max(own))
+        pas_tree::Body::Empty
+        | pas_tree::Body::Call { .. }
+        | pas_tree::Body::Assign { .. }
+        | pas_tree::Body::Goto { .. } => Ok(0),
+    }
+}
+
+/// The `else` of an `if`, where there is one.
+#[cycle(place)]
+fn place_other(
+    labels: &mut IndexMap<u32, LabelDecl>,
+    statement: &Option<Boxed<Statement>>,
+) -> Result<u32, AllocError>
+    ensures last { IfOk result (λ to. to ≡ last_place (or_nothing (option_map outline_of statement.now))) }
+    ensures noted { OnOk result (Notes labels.old (marks Branches (or_nothing (option_map outline_of statement.now))) labels.new) }
+{
+    match statement {
+        Some(statement) => place_branch(labels, statement.get()),
+        None => Ok(0),
+    }
 }
 
 #[cycle(place)]
 fn place_arms(
     labels: &mut IndexMap<u32, LabelDecl>,
     arms: &[pas_tree::Element],
-) -> Result<u32, AllocError> {
+) -> Result<u32, AllocError>
+    ensures last { IfOk result (λ to. to ≡ last_place (in_order (map arm_of arms.now))) }
+    ensures noted { OnOk result (Notes labels.old (marks Branches (in_order (map arm_of arms.now))) labels.new) }
+{
     let mut to = 0;
     for arm in arms {
         to = to.max(place_branch(labels, &arm.body)?);
@@ -129,20 +191,45 @@ fn place_arms(
     Ok(to)
 }
 
+/// Takes note of the label of a statement, if it has one, with the places of what may leave for it.
+fn note_label(
+    labels: &mut IndexMap<u32, LabelDecl>,
+    label: Option<Label>,
+    from: u32,
+    to: u32,
+    outermost: bool,
+) -> Result<(), AllocError>
+    ensures noted { OnOk result (Notes labels.old (label_mark «from» to outermost label) labels.new) }
+{
+    match label {
+        Some(label) => {
+            let placement = Placement {
+                at: label.at.start,
+                from,
+                to,
+                outermost,
+            };
+            note(labels, label.value, placement)
+        }
+        None => Ok(()),
+    }
+}
+
 /// Takes note that a label stands at a statement. Of two statements the first in the text counts.
 fn note(
     labels: &mut IndexMap<u32, LabelDecl>,
     value: u32,
     placement: Placement,
-) -> Result<(), AllocError> {
+) -> Result<(), AllocError>
+    ensures noted { OnOk result (Notes labels.old (record { value = value; placement = placement } ∷ []) labels.new) }
+{
     let Some(label) = labels.get(&value).copied() else {
         return Ok(());
     };
-    if label
-        .placed
-        .is_some_and(|earlier| earlier.at <= placement.at)
-    {
-        return Ok(());
+    if let Some(earlier) = label.placed {
+        if earlier.at <= placement.at {
+            return Ok(());
+        }
     }
     labels.insert(
         value,
@@ -153,6 +240,15 @@ fn note(
     )?;
     Ok(())
 }
+
+/// A law: what `place_sequence` keeps of the labels of a block is right where the places of the statements rise with the text,
+/// as they do in each tree that the parser makes. By its place a `goto` may lead to a label exactly where it may by its path,
+/// and a label that is kept with no statement stands before none.
+pub fn places_say_the_same_as_paths()
+    ensures { (body : List Statement) → PlacesRise body → (before after : spec.Labels) → Notes before (sequence_marks body true) after
+        → (value : ℕ) (declared placed : LabelDecl) → get nat_eq before value ≡ Some declared → declared.placed ≡ None → get nat_eq after value ≡ Some placed
+        → IsPlacedRightly (outline body) value placed.placed }
+{}
 
 impl Scope {
     /// Declares a label of the block's label part.
