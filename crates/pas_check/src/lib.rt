@@ -29,6 +29,7 @@ mod types;
 
 pub use checker::check;
 pub use fault::CheckFault;
+pub use label::places_say_the_same_as_paths;
 
 #[cfg(test)]
 mod tests;
