@@ -1,5 +1,5 @@
 -- The constants that stand before, as the keys of a map.
-use Rattle.std.proofs.Common.{◌≡◌, Bool, true, false, cond, List, [], ◌∷◌, ◌++◌, refl, ap, ◌∙◌, ℤ}
+use Rattle.std.proofs.Common.{◌≡◌, Bool, true, false, cond, List, [], ◌∷◌, ◌++◌, refl, ap, ℤ}
 use Rattle.std.specs.Prelude.{is_some, ◌||◌, if◌then◌else◌, Some}
 use Rattle.std.specs.List.{list_any}
 use Rattle.std.specs.Map.{lookup, keys_of}

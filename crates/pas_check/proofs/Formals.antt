@@ -8,7 +8,6 @@ use Rattle.pas_check.specs.declared.fault.Fault.{Fault}
 use Rattle.pas_check.specs.declared.meaning.Meaning.TheVariants as means
 use Rattle.pas_check.specs.Declarations.{InTurn, defined, led_by, name_claimed}
 use Rattle.pas_check.specs.Formals.{Formed, IsFormal, SectionMay, formals_declared, formed, in_formal_names, in_formal_type, kind_of}
-use Rattle.pas_check.specs.Outcome.{Outcome}
 use Rattle.pas_check.specs.Sight.{Sight}
 use Rattle.pas_check.specs.TypeExpr.{named_type}
 

@@ -14,7 +14,7 @@ use Rattle.pas_check.specs.Headings.{HeadingMay, begun, headed, in_formals, in_r
 use Rattle.pas_check.specs.Labels.{Labelled}
 use Rattle.pas_check.specs.Names.{Names}
 use Rattle.pas_check.specs.Outcome.{Outcome}
-use Rattle.pas_check.specs.Sight.{Heading, Sight, innermost}
+use Rattle.pas_check.specs.Sight.{Sight, innermost}
 
 module _ (v : Sight) (r : Routine) (later : Option Block) (u w : Sight) (names : Names) (l : Labelled) (level : ℕ) (sections : List Section) (begins : begun v r ≡ Ok u) (own : names ≡ own_names u r later) (within : w ≡ inside u names l) (deep : level ≡ v.level + 1) (same : sections ≡ (out-Routine r).formals) where
   moved : (o : Outcome Formed) → InTurn (SectionMay level) (w, []) sections o → InTurn (SectionMay (v.level + 1)) (inside u (own_names u r later) l, []) (out-Routine r).formals o

@@ -1,5 +1,5 @@
 -- The control variables of the `for` statements around.
-use Rattle.std.proofs.Common.{◌≡◌, ℕ, Bool, true, false, cond, Option, Some, None, refl, sym, ap, subst, ◌∙◌, nat_eq, eqb-true}
+use Rattle.std.proofs.Common.{◌≡◌, ℕ, Bool, true, false, cond, Option, None, refl, sym, ap, subst, ◌∙◌, nat_eq, eqb-true}
 use Rattle.std.specs.Prelude.{is_some, ◌||◌, if◌then◌else◌}
 use Rattle.pas_check.specs.Sight.{Sight}
 use Rattle.pas_check.specs.Statements.{over}

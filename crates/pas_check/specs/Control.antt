@@ -1,5 +1,5 @@
 -- The control variable of a `for` (ISO 7185, 6.8.3.9).
-use Rattle.std.specs.Prelude.{ℕ, Bool, ◌&&◌, not, Option, Some, None, Ok, Err, if◌then◌else◌}
+use Rattle.std.specs.Prelude.{ℕ, Bool, ◌&&◌, ◌||◌, not, nat_eq, List, [], ◌∷◌, Option, Some, None, Ok, Err, if◌then◌else◌}
 use Rattle.px_base.specs.declared.place.Span.{Span}
 use Rattle.pas_check.specs.declared.fault.Fault.TheVariants.{Broken}
 use Rattle.pas_check.specs.declared.fault.Rule.TheVariants as rule
@@ -34,3 +34,11 @@ abbrev pub controlled : Sight → Span → Outcome (Variable × Bool)
 controlled v name = do
   m ← meant v name
   control_by v m name.start
+
+-- a routine that is inside the one of a variable, by the place of its declaration, threatens it; so do several
+abbrev pub threatens : Sight → ℕ → Sight
+threatens v at = record v { threatened = λ n. nat_eq at n || v.threatened n }
+
+abbrev pub all_threatened : Sight → List ℕ → Sight
+all_threatened v [] = v
+all_threatened v (at ∷ rest) = all_threatened (threatens v at) rest

@@ -4,6 +4,7 @@ ghost use Rattle.std.specs.Prelude.{◌≡◌, false, OnOk};
 ghost use Rattle.pas_program.specs.Tables.{is_kind};
 ghost use Rattle.pas_program.specs.declared.variable.VarKind.TheVariants as kind;
 ghost use Rattle.pas_check.specs.Control as spec;
+ghost use Rattle.pas_check.specs.Control.{all_threatened, threatens};
 ghost use Rattle.pas_check.specs.Expr.{found};
 ghost use Rattle.pas_check.specs.Outcome.{Gives};
 ghost use Rattle.pas_check.specs.Sight.{Sight, sight};
@@ -106,6 +107,24 @@ impl<'t> Seen<'t> {
         Ok(())
     }
 
+    /// Takes note that a routine inside its own threatens the variable that is declared at a place.
+    #[tactic(auto, unfolding(crate::specs::Sight::sight))]
+    fn threatens(&mut self, at: u32) -> Result<(), AllocError>
+        ensures threatened { OnOk result (sight self.new ≡ threatens (sight self.old) at) }
+    {
+        self.threatened.insert(at, ())?;
+        Ok(())
+    }
+
+    fn all_threatened(&mut self, threats: &[u32]) -> Result<(), AllocError>
+        ensures threatened { OnOk result (sight self.new ≡ all_threatened (sight self.old) threats.now) }
+    {
+        for at in threats {
+            self.threatens(*at)?;
+        }
+        Ok(())
+    }
+
     /// Takes note that it ends.
     #[tactic(auto, unfolding(crate::specs::Sight::sight))]
     fn leave_loop(&mut self, at: u32)
@@ -157,10 +176,10 @@ impl<'t> Checker<'t> {
     }
 
     /// Takes note of what the routine at hand threatens, when its block ends.
-    pub fn note_threats(&mut self) -> Result<(), AllocError> {
-        for at in self.made.threats.as_slice() {
-            self.seen.threatened.insert(*at, ())?;
-        }
+    pub fn note_threats(&mut self) -> Result<(), AllocError>
+        ensures threatened { OnOk result (sight self.new.seen ≡ all_threatened (sight self.old.seen) self.old.made.threats.items) }
+    {
+        self.seen.all_threatened(self.made.threats.as_slice())?;
         self.made.threats.clear();
         Ok(())
     }

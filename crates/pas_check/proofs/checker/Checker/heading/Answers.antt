@@ -1,4 +1,4 @@
-use Rattle.std.proofs.Common.{Ok, false, rules, ap, ◌∙◌}
+use Rattle.std.proofs.Common.{false, rules, ap, ◌∙◌}
 use Rattle.std.specs.Option.{option_copied}
 use Rattle.pas_check.specs.Headings.{HeadingMay, headed, not_begun}
 use Rattle.pas_check.specs.Labels.{labelled}

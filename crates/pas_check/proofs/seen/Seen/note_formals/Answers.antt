@@ -1,4 +1,3 @@
-use Rattle.std.proofs.Common.{map}
 use Rattle.std.specs.Prelude.{flat_map}
 use Rattle.pas_check.specs.Block.{section_names}
 use Rattle.pas_check.specs.Names.{noted_all}
