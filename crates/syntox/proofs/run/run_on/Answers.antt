@@ -1,4 +1,4 @@
-use Rattle.std.proofs.Common.{subst}
+use Rattle.std.proofs.Common.{subst, ◌∙◌}
 use Rattle.control_points.specs.Flows.{chart_of}
 use Rattle.interp.specs.RunText.{IsEnd}
 use Rattle.syntox.proofs.Owed.{source_of}
@@ -12,7 +12,7 @@ returns-clause-run c = record {
   bytes = c.args.input.now;
   is_input = record { given = (λ known e. cc); within = c.requires.input };
   ended = c.in_ok-ended.ended;
-  ends = subst (λ items. IsEnd (chart_of c.args.flow.now) items c.args.steps c.in_ok-ended.ended) c.in_ok-items.ensures.items c.in_ok-ended.ensures.ended;
+  ends = subst (λ items. IsEnd (chart_of c.args.flow.now) items c.args.steps c.in_ok-ended.ended) (c.deref.ensures.value ∙ c.in_ok-items.ensures.items) c.in_ok-ended.ensures.ended;
   is_status = c.status_of-status.ensures;
   is_text = c.in_ok-text.ensures;
 }
