@@ -32,6 +32,7 @@ use Rattle.pas_check.specs.Outcome.{Outcome, ◌>>=◌, needed, unless}
 use Rattle.pas_check.specs.Rules.{code_of, is_call_in_assertion, is_declared_before, is_other_count, is_other_host, is_other_type, is_threat, variable_of_name}
 use Rattle.pas_check.specs.Names.{name_at}
 use Rattle.pas_check.specs.Sight.{Heading, Sight, denoted_at, host_at, innermost, parts_at}
+use Rattle.pas_check.specs.Written.{Writes, writes_in_turn, writes_whole}
 
 -- a scalar of a host, or a whole array by the number of its type
 pub data TypeOf : Type 0 where
@@ -43,11 +44,17 @@ pub record Place : Type 0 where
   pub of_type : ℕ
   pub itself : Option Variable
 
--- What is found of an expression: its first token, its type as a value, and what variable it is.
+-- What is found of an expression: its first token, its type as a value, what variable it is, and what its calls write.
 pub record Found : Type 0 where
   pub first : ℕ
   pub value : Outcome TypeOf
   pub variable : Outcome Place
+  pub writes : Writes
+
+-- what is found of a variable with its subscripts
+pub record Reach : Type 0 where
+  pub place : Outcome Place
+  pub writes : Writes
 
 -- an actual: its expression, or the place of its string; and its width
 pub record Given : Type 0 where
@@ -221,6 +228,35 @@ formals_of (Some h) = h.formals
 abbrev pub formals_at : Sight → ℕ → List Formal
 formals_at v head = formals_of (slice_get v.headings head)
 
+-- ---- what they write
+
+-- a string writes nothing
+abbrev pub given_writes : (Found → Writes) → Result Found ℕ → Writes
+given_writes writes (Ok e) w = writes e w
+given_writes writes (Err at) w = w
+
+abbrev pub found_writes : Found → Writes
+found_writes e = e.writes
+
+abbrev pub variable_written : Sight → Outcome Place → Writes
+variable_written v (Ok place) w = writes_whole v.level place.itself w
+variable_written v (Err e) w = w
+
+-- a variable that is passed by `var`, or read
+abbrev pub variable_writes : Sight → Found → Writes
+variable_writes v e w = variable_written v e.variable (e.writes w)
+
+abbrev pub passed_writes_by : Sight → Option Formal → Found → Writes
+passed_writes_by v None e w = w
+passed_writes_by v (Some formal) e w = if formal.by_var then variable_writes v e w else e.writes w
+
+abbrev pub passed_writes : Sight → Option Formal → Given → Writes
+passed_writes v formal a w = given_writes (passed_writes_by v formal) a.value w
+
+abbrev pub all_passed_writes : Sight → List Formal → List Given → Writes
+all_passed_writes v formals [] w = w
+all_passed_writes v formals (a ∷ actuals) w = all_passed_writes v (others formals) actuals (passed_writes v (first_of formals) a w)
+
 -- ---- calls
 
 abbrev pub type_of_result : Option Variable → ℕ
@@ -311,6 +347,11 @@ named v name actuals = do
   m ← meant v name
   named_by v m name.start actuals
 
+abbrev pub call_writes : Sight → Outcome Meaning → List Given → Writes
+call_writes v (Ok (means.Routine head function)) actuals w = all_passed_writes v (formals_at v head) actuals w
+call_writes v (Ok m) actuals w = writes_in_turn (λ (a : Given). given_writes found_writes a.value) actuals w
+call_writes v (Err e) actuals w = w
+
 -- ---- operators
 
 abbrev pub operand_host : BinOp → Option Bool
@@ -344,11 +385,11 @@ left_operand o left = left_by (operand_host o) left
 -- ---- the whole
 
 -- one form of expression, with what is found of its parts
-abbrev pub value_of : Sight → Expr-F (Result Found ℕ) Found (Outcome Place) Given → Outcome TypeOf
+abbrev pub value_of : Sight → Expr-F (Result Found ℕ) Found Reach Given → Outcome TypeOf
 value_of v (Expr-F.Number value span) = Ok (scalar false)
 value_of v (Expr-F.Name name actuals span) = named v name actuals
 value_of v (Expr-F.Indexed access span) = do
-  place ← access
+  place ← access.place
   Ok (value_at v place.of_type)
 value_of v (Expr-F.Paren inner span) = inner.value
 value_of v (Expr-F.Not inner span) = do
@@ -363,34 +404,44 @@ value_of v (Expr-F.Binary o left right at span) = do
   Ok (scalar (gives_truth o))
 
 -- what is no name and no name with subscripts is no variable
-abbrev pub variable_in : Sight → Expr-F (Result Found ℕ) Found (Outcome Place) Given → Outcome Place
-variable_in v (Expr-F.Indexed access span) = access
+abbrev pub variable_in : Sight → Expr-F (Result Found ℕ) Found Reach Given → Outcome Place
+variable_in v (Expr-F.Indexed access span) = access.place
 variable_in v (Expr-F.Name name [] span) = do
   m ← meant v name
   variable_by v m name.start
 variable_in v form = Err (lower_first (span_of_form form).start rule.VarActual (value_of v form))
 
-abbrev pub value_step : ActualValue-F (Result Found ℕ) Found (Outcome Place) Given → Result Found ℕ
+-- what it writes, its parts in the order of the text
+abbrev pub writes_of : Sight → Expr-F (Result Found ℕ) Found Reach Given → Writes
+writes_of v (Expr-F.Number value span) w = w
+writes_of v (Expr-F.Name name actuals span) w = call_writes v (meant v name) actuals w
+writes_of v (Expr-F.Indexed access span) w = access.writes w
+writes_of v (Expr-F.Paren inner span) w = inner.writes w
+writes_of v (Expr-F.Not inner span) w = inner.writes w
+writes_of v (Expr-F.Signed sign inner span) w = inner.writes w
+writes_of v (Expr-F.Binary o left right at span) w = right.writes (left.writes w)
+
+abbrev pub value_step : ActualValue-F (Result Found ℕ) Found Reach Given → Result Found ℕ
 value_step (ActualValue-F.Value e) = Ok e
 value_step (ActualValue-F.«Text» span) = Err span.start
 
-abbrev pub expr_step : Sight → Expr-F (Result Found ℕ) Found (Outcome Place) Given → Found
-expr_step v form = record { first = (span_of_form form).start; value = value_of v form; variable = variable_in v form }
+abbrev pub expr_step : Sight → Expr-F (Result Found ℕ) Found Reach Given → Found
+expr_step v form = record { first = (span_of_form form).start; value = value_of v form; variable = variable_in v form; writes = writes_of v form }
 
-abbrev pub access_step : Sight → Access-F (Result Found ℕ) Found (Outcome Place) Given → Outcome Place
-access_step v a = accessed v a.name a.subscripts
+abbrev pub access_step : Sight → Access-F (Result Found ℕ) Found Reach Given → Reach
+access_step v a = record { place = accessed v a.name a.subscripts; writes = writes_in_turn found_writes a.subscripts }
 
-abbrev pub actual_step : Actual-F (Result Found ℕ) Found (Outcome Place) Given → Given
+abbrev pub actual_step : Actual-F (Result Found ℕ) Found Reach Given → Given
 actual_step a = record { value = a.value; width = a.width }
 
 unfoldable pub found : Sight → Expr → Found
-found v = fold-Expr (Result Found ℕ) Found (Outcome Place) Given value_step (expr_step v) (access_step v) actual_step
+found v = fold-Expr (Result Found ℕ) Found Reach Given value_step (expr_step v) (access_step v) actual_step
 
-unfoldable pub access_found : Sight → Access → Outcome Place
-access_found v = fold-Access (Result Found ℕ) Found (Outcome Place) Given value_step (expr_step v) (access_step v) actual_step
+unfoldable pub access_found : Sight → Access → Reach
+access_found v = fold-Access (Result Found ℕ) Found Reach Given value_step (expr_step v) (access_step v) actual_step
 
 unfoldable pub given : Sight → Actual → Given
-given v = fold-Actual (Result Found ℕ) Found (Outcome Place) Given value_step (expr_step v) (access_step v) actual_step
+given v = fold-Actual (Result Found ℕ) Found Reach Given value_step (expr_step v) (access_step v) actual_step
 
 unfoldable pub value_given : Sight → ActualValue → Result Found ℕ
-value_given v = fold-ActualValue (Result Found ℕ) Found (Outcome Place) Given value_step (expr_step v) (access_step v) actual_step
+value_given v = fold-ActualValue (Result Found ℕ) Found Reach Given value_step (expr_step v) (access_step v) actual_step

@@ -17,3 +17,5 @@ pub mod Sight
 pub mod Statement
 pub mod Statements
 pub mod TypeExpr
+pub mod Written
+pub mod Writes
