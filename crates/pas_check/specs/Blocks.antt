@@ -1,10 +1,11 @@
 -- Blocks and the routines in them (ISO 7185, 6.2 and 6.6), and what they may answer: what is seen after them, or the fault of
 -- the first rule that they break. Numbers of variables and of routines are any.
-use Rattle.std.specs.Prelude.{◌≡◌, ℕ, ◌≤◌, nat_eq, pos, Bool, true, false, ◌&&◌, not, List, [], ◌∷◌, map, length, codes, is_some, Option, Some, None, Ok, Err, if◌then◌else◌}
+use Rattle.std.specs.Prelude.{◌≡◌, ℕ, ◌≤◌, nat_eq, pos, ◌-ℤ◌, Bool, true, false, ◌&&◌, not, List, [], ◌∷◌, map, length, codes, is_some, Option, Some, None, Ok, Err, if◌then◌else◌}
 use Rattle.std.specs.Bool.{beq}
-use Rattle.std.specs.Int.{int_neg}
 use Rattle.std.specs.Option.{option_copied, option_map}
 use Rattle.std.specs.Str.{bytes_eq, str_to_ascii_lowercase}
+use Rattle.std.specs.declared.alloc.Global.{Global}
+use Rattle.std.specs.declared.vec.Vec.{Vec}
 use Rattle.indexmap.specs.IndexMap.{get}
 use Rattle.px_base.specs.declared.place.Span.{Span}
 use Rattle.pas_program.specs.declared.type_def.TypeDef.TheVariants.{Scalar}
@@ -23,15 +24,17 @@ use Rattle.pas_check.specs.declared.fault.Fault.TheVariants.{Broken, Memory}
 use Rattle.pas_check.specs.declared.fault.Rule.{Rule}
 use Rattle.pas_check.specs.declared.fault.Rule.TheVariants as rule
 use Rattle.pas_check.specs.declared.heading.Function.{Function}
+use Rattle.pas_check.specs.declared.heading.Opened.{Opened}
 use Rattle.pas_check.specs.declared.meaning.Meaning.{Meaning}
 use Rattle.pas_check.specs.declared.meaning.Meaning.TheVariants as means
 use Rattle.pas_check.specs.declared.meaning.Required.TheVariants as function
 use Rattle.pas_check.specs.declared.meaning.Transput.TheVariants as transput
 use Rattle.pas_check.specs.declared.plan.Plan.{Plan}
+use Rattle.pas_check.specs.declared.waiting.Waiting.{Waiting}
 use Rattle.pas_check.specs.Block.{names_in}
 use Rattle.pas_check.specs.Control.{all_assigned, all_threatened}
 use Rattle.pas_check.specs.Declarations.{InTurn, VarMay, const_declared, led_by, type_declared}
-use Rattle.pas_check.specs.Headings.{HeadingMay, Opening, inside, outside}
+use Rattle.pas_check.specs.Headings.{HeadingMay, Opening, inside, opening_of, outside}
 use Rattle.pas_check.specs.Labels.{Labelled, Labels, declaration_of, labels_declared, placed_in}
 use Rattle.pas_check.specs.Names.{Name, Names, ended, name_at, noted_all, spelling}
 use Rattle.pas_check.specs.Outcome.{Outcome, ◌>>=◌, each, unless}
@@ -128,6 +131,14 @@ lacking_by (Some at) = Err (Broken rule.Body at)
 pub record Standing : Type 0 where
   pub seen : Sight
   pub waiting : Name → Option Opening
+
+-- of several with a name, the first
+abbrev pub opening_for : Name → List (Vec ℕ Global × Opened) → Option Opening
+opening_for name [] = None
+opening_for name (e ∷ rest) = if bytes_eq name e.0.items then Some (opening_of e.1) else opening_for name rest
+
+abbrev pub waiting_of : Waiting → Name → Option Opening
+waiting_of w name = opening_for name w.opened.entries
 
 abbrev pub nothing_waits : Name → Option Opening
 nothing_waits name = None
@@ -246,7 +257,7 @@ at_first text l = record {
   text = text;
   blocks = all_ended required [] ∷ [];
   labels = l ∷ [];
-  types = Scalar false (int_neg (pos maxint)) (pos maxint) ∷ Scalar true (pos 0) (pos 1) ∷ [];
+  types = Scalar false (pos 0 -ℤ pos maxint) (pos maxint) ∷ Scalar true (pos 0) (pos 1) ∷ [];
   headings = [];
   level = 0;
   asserting = false;

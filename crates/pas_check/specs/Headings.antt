@@ -1,10 +1,7 @@
 -- The heading of a routine (ISO 7185, 6.6.1 and 6.6.2), and what it may answer: what is seen after it with
 -- what its block begins with, or the fault of the first rule that it breaks. Numbers of variables and of routines are any.
-use Rattle.std.specs.Prelude.{◌≡◌, ℕ, ◌+◌, List, [], ◌∷◌, ◌++◌, length, flat_map, Bool, Option, Some, None, Ok, Err, if◌then◌else◌}
+use Rattle.std.specs.Prelude.{◌≡◌, ℕ, ◌+◌, List, [], ◌∷◌, ◌++◌, length, flat_map, Bool, Option, Some, None, Ok, Err}
 use Rattle.std.specs.Option.{option_map}
-use Rattle.std.specs.Str.{bytes_eq}
-use Rattle.std.specs.declared.alloc.Global.{Global}
-use Rattle.std.specs.declared.vec.Vec.{Vec}
 use Rattle.px_base.specs.declared.place.Span.{Span}
 use Rattle.pas_program.specs.declared.variable.VarKind.TheVariants as kind
 use Rattle.pas_tree.specs.declared.block.Block.{Block}
@@ -20,7 +17,7 @@ use Rattle.pas_check.specs.Declarations.{InTurn, defined}
 use Rattle.pas_check.specs.Expr.{claimed}
 use Rattle.pas_check.specs.Formals.{Formed, SectionMay}
 use Rattle.pas_check.specs.Labels.{Labelled}
-use Rattle.pas_check.specs.Names.{Name, Names, noted_all}
+use Rattle.pas_check.specs.Names.{Names, noted_all}
 use Rattle.pas_check.specs.Outcome.{Outcome, ◌>>=◌}
 use Rattle.pas_check.specs.Routine.{heading_allowed, result_type}
 use Rattle.pas_check.specs.Sight.{Heading, Sight, innermost}
@@ -80,11 +77,6 @@ pub record Opening : Type 0 where
 
 abbrev pub opening_of : Opened → Opening
 opening_of o = record { level = o.frame.level; function = o.function; names = o.names; result = o.result }
-
--- the one with a name, the first of several
-abbrev pub opening_for : Name → List (Vec ℕ Global × Opened) → Option Opening
-opening_for name [] = None
-opening_for name (e ∷ rest) = if bytes_eq name e.0.items then Some (opening_of e.1) else opening_for name rest
 
 -- callers see the routine
 abbrev pub headed : Sight → Heading → Sight
