@@ -1,6 +1,7 @@
 //! What no contract says: that the answers come, and the texts as people read them. Expected texts are written out from
 //! the rules of the language.
 mod analysis;
+mod checking;
 mod graph;
 mod large;
 mod running;
