@@ -11,6 +11,7 @@ use Rattle.pas_tree.specs.declared.block.Tree.{Tree}
 use Rattle.pas_program.specs.Checked.{tables}
 use Rattle.pas_program.specs.Labels.{AssertsStand, ConstantsDiffer, ControlsAreLocal, LabelsStand}
 use Rattle.pas_program.specs.declared.program.Program.{Program}
+use Rattle.pas_check.specs.Blocks.{IsSound}
 use Rattle.pas_check.specs.Fault.{IsWithin}
 use Rattle.pas_check.specs.declared.fault.CheckFault.TheVariants.{Wrong}
 use Rattle.control_points.specs.declared.flow.Flow.{Flow}
@@ -55,13 +56,13 @@ token_of (TooDeep token) = token
 token_of (NoMemory e) = 0
 
 -- The fault of a source. Lexical faults are those of the text's covering, and faults of the syntax those that reading the
--- tokens gives. Of a rule it is told that the source has a tree, and that the rule is one of the eighteen and its place in
--- the text.
+-- tokens gives. A rule is the first one that the source's tree breaks in the order of the text, by its number; it is told at
+-- the place where it is broken, and the place told lies in the text.
 pub data HasSourceFault (text : List ℕ) : SourceFault → Type 0 where
   lexical : {fault : LexFault} → HasFault text fault → HasSourceFault text (Lex fault)
   syntax : {tokens : List Token} {fault : ParseFault} → HasTokens text tokens → program tokens ≡ Err fault
       → HasSourceFault text (Parse fault (token_place (length text) tokens (token_of fault)))
-  rule : {tree : Tree} {code at : ℕ} → IsTreeOf text tree → IsWithin (length text) (Wrong code at) → HasSourceFault text (Check (Wrong code at))
+  rule : {tree : Tree} {code at : ℕ} → IsTreeOf text tree → IsWithin (length text) (Wrong code at) → IsSound text tree (Wrong code at) → HasSourceFault text (Check (Wrong code at))
 
 -- why a source has no flow: a fault of it, or want of memory, which may come at any source
 abbrev pub Refuses : List ℕ → Refusal → Type 0

@@ -1,5 +1,6 @@
 //! From the bytes of a source to its flow, with the cause where there is none.
 ghost use Rattle.std.specs.Prelude.{◌≡◌, ◌≤◌, List, ℕ, length, IfOk, IfErr};
+ghost use Rattle.pas_check.specs.Blocks.{IsSound};
 ghost use Rattle.pas_check.specs.Fault.{IsWithin};
 ghost use Rattle.pas_lexer.specs.Covering as covering;
 ghost use Rattle.pas_lexer.specs.Covering.{HasTokens};
@@ -63,7 +64,7 @@ fn syntax(fault: ParseFault, tokens: &[Token], end: u32) -> Refusal
 
 /// What a broken rule is to the source.
 fn checked(fault: CheckFault) -> Refusal
-    ensures fault { (text : List ℕ) (tree : Tree) → IsTreeOf text tree → IsWithin (length text) fault → Refuses text result }
+    ensures fault { (text : List ℕ) (tree : Tree) → IsTreeOf text tree → IsWithin (length text) fault → IsSound text tree fault → Refuses text result }
     ensures place { (text : List ℕ) → IsWithin (length text) fault → CanBeTold (length text) result }
 {
     match fault {
