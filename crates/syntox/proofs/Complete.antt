@@ -47,9 +47,9 @@ module _ (one_list : (text : List ℕ) (ts us : List Token) → HasTokens text t
       let tokens : tree.is_tree.tokens ≡ ts = one_list other tree.is_tree.tokens ts here has in
       let read : program ts ≡ Ok tree.tree = subst (λ t. program t ≡ Ok tree.tree) tokens tree.is_tree.is_read in
       cc
-  rule_of file text tree line (running.of_source {text = other} is (source.rule {code = code} {at = at} t within)) =
+  rule_of file text tree line (running.of_source {text = other} is (source.rule {tree = read} {code = code} {at = at} t within sound)) =
       let same : other ≡ text = is.of_file.bytes text refl in
-      subst (λ x. TellsRule file x (fault_line file other (Check (Wrong code at)))) same (record { code = code; at = at; within = within; is = refl })
+      subst (λ x. TellsRule file x (fault_line file other (Check (Wrong code at)))) same (record { code = code; at = at; tree = read; is_tree = t; sound = sound; within = within; is = refl })
 
 module _ (o : Outside) (s : Sinks) (file bytes input : List ℕ) (steps : ℕ) (known : o.files file ≡ Some (Some bytes))
     (given : o.input.told ≡ Some input) (few : length input ≤ max_input)

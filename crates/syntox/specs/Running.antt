@@ -10,6 +10,7 @@ use Rattle.interp.specs.RunText.{IsEnd, run_text}
 use Rattle.interp.specs.declared.running.Ended.{Ended}
 use Rattle.interp.specs.declared.running.Ending.{Ending}
 use Rattle.interp.specs.declared.running.Ending.TheVariants as ending
+use Rattle.pas_check.specs.Blocks.{IsSound}
 use Rattle.pas_check.specs.Fault.{IsWithin}
 use Rattle.pas_check.specs.declared.fault.CheckFault.TheVariants.{Wrong}
 use Rattle.pas_tree.specs.declared.block.Tree.{Tree}
@@ -43,10 +44,13 @@ pub data TellsFault (file : List ℕ) (told : Option (Option (List ℕ))) : List
   of_source : {text : List ℕ} {fault : SourceFault} → IsSource told text → HasSourceFault text fault
       → TellsFault file told (fault_line file text fault)
 
--- The line tells that a rule of names, types, labels or control variables is broken.
+-- The line tells the first rule of names, types, labels or control variables that the text's tree breaks.
 pub record TellsRule (file text line : List ℕ) : Type 0 where
   pub code : ℕ
   pub at : ℕ
+  pub tree : Tree
+  pub is_tree : IsTreeOf text tree
+  pub sound : IsSound text tree (Wrong code at)
   pub within : IsWithin (length text) (Wrong code at)
   pub is : line ≡ fault_line file text (Check (Wrong code at))
 

@@ -13,7 +13,7 @@ pub returns-in-Err-check-clause-fault : goal.returns-in-Err-check-clause-fault
 returns-in-Err-check-clause-fault c =
     c.checked.ensures.fault c.args.text.now c.in-Ok-parse.tree
     (tree_of c.args.text.now c.deref.result.now c.in-Ok.tokens.items c.in-Ok-parse.tree c.deref.ensures.value c.in-Ok.ensures.tokens c.in-Ok-parse.ensures.value c.in-Ok-parse.ensures.grammar)
-    c.in-Err-check.ensures.fault
+    c.in-Err-check.ensures.fault c.in-Err-check.ensures.sound
 
 pub returns-in-Err-check-clause-place : goal.returns-in-Err-check-clause-place
 returns-in-Err-check-clause-place c = c.checked.ensures.place c.args.text.now c.in-Err-check.ensures.fault
