@@ -52,8 +52,8 @@ pub struct Made {
     pub frame: Frame,
     /// The variables that the routine at hand threatens and that are not its own, by their places.
     pub threats: Vec<u32>,
-    /// The functions whose results are assigned to, by their headings.
-    pub assigned: IndexMap<usize, ()>,
+    /// The functions whose names the statement part at hand assigns to, by their headings.
+    pub assigned: Vec<usize>,
     /// The name that was looked up last, in lower case.
     pub lower: Vec<u8>,
 }

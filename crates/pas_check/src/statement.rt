@@ -250,6 +250,6 @@ impl<'t> Seen<'t> {
 }
 
 fn assign_result(made: &mut Made, head: usize) -> Result<(), AllocError> {
-    made.assigned.insert(head, ())?;
+    made.assigned.push(head)?;
     Ok(())
 }
