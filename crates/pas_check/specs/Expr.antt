@@ -238,6 +238,10 @@ given_writes writes (Err at) w = w
 abbrev pub found_writes : Found → Writes
 found_writes e = e.writes
 
+-- the expression of an actual that is no string
+abbrev pub actual_writes : Given → Writes
+actual_writes a w = given_writes found_writes a.value w
+
 abbrev pub variable_written : Sight → Outcome Place → Writes
 variable_written v (Ok place) w = writes_whole v.level place.itself w
 variable_written v (Err e) w = w
@@ -349,7 +353,7 @@ named v name actuals = do
 
 abbrev pub call_writes : Sight → Outcome Meaning → List Given → Writes
 call_writes v (Ok (means.Routine head function)) actuals w = all_passed_writes v (formals_at v head) actuals w
-call_writes v (Ok m) actuals w = writes_in_turn (λ (a : Given). given_writes found_writes a.value) actuals w
+call_writes v (Ok m) actuals w = writes_in_turn actual_writes actuals w
 call_writes v (Err e) actuals w = w
 
 -- ---- operators

@@ -1,10 +1,11 @@
 //! Variables with their subscripts (ISO 7185, 6.5).
 
-ghost use Rattle.std.specs.Prelude.{◌≡◌, Some, map};
+ghost use Rattle.std.specs.Prelude.{◌≡◌, OnOk, Some, map};
 ghost use Rattle.pas_check.specs.Expr as spec;
-ghost use Rattle.pas_check.specs.Expr.{access_found, found, place_of};
+ghost use Rattle.pas_check.specs.Expr.{access_found, found, found_writes, place_of};
 ghost use Rattle.pas_check.specs.Outcome.{Gives};
 ghost use Rattle.pas_check.specs.Sight.{host_at, sight};
+ghost use Rattle.pas_check.specs.Written.{written, writes_in_turn};
 
 use crate::expr::Typed;
 use crate::fault::{Fault, Rule};
@@ -28,6 +29,7 @@ impl<'t> Seen<'t> {
     #[tactic(auto, unfolding(crate::specs::Expr::variable_named))]
     pub fn variable_named(&self, made: &mut Made, name: Span) -> Result<Variable, Fault>
         ensures value { Gives (λ x. x) (spec.variable_named (sight self.now) name) result }
+        ensures writes { written made.new ≡ written made.old }
     {
         match self.meaning(made, name)? {
             Meaning::Variable(variable) => Ok(variable),
@@ -39,7 +41,8 @@ impl<'t> Seen<'t> {
     #[tactic(auto, unfolding(crate::specs::Expr::access_found, crate::specs::Expr::accessed))]
     #[cycle(expr)]
     pub fn access(&self, made: &mut Made, access: &pas_tree::Access) -> Result<Reached, Fault>
-        ensures value { Gives place_of (access_found (sight self.now) access.now) result }
+        ensures value { Gives place_of (access_found (sight self.now) access.now).place result }
+        ensures writes { OnOk result (written made.new ≡ (access_found (sight self.now) access.now).writes (written made.old)) }
     {
         let variable = self.variable_named(made, access.name)?;
         self.reached(made, variable, access.name, access.subscripts.as_slice())
@@ -56,6 +59,7 @@ impl<'t> Seen<'t> {
         subscripts: &[pas_tree::Expr],
     ) -> Result<Reached, Fault>
         ensures value { Gives place_of (spec.reached (sight self.now) variable (map (found (sight self.now)) subscripts.now)) result }
+        ensures writes { OnOk result (written made.new ≡ writes_in_turn found_writes (map (found (sight self.now)) subscripts.now) (written made.old)) }
     {
         let mut of_type = variable.of_type;
         let mut list = Items::new(self.alloc);
@@ -107,6 +111,7 @@ impl<'t> Seen<'t> {
         index: u32,
     ) -> Result<Expr, Fault>
         ensures value { Gives (λ e. tt) (spec.subscript (sight self.now) (found (sight self.now) subscript.now) index) result }
+        ensures writes { OnOk result (written made.new ≡ (found (sight self.now) subscript.now).writes (written made.old)) }
     {
         let at = self.first(subscript);
         match self.expr(made, subscript)? {

@@ -1,11 +1,12 @@
 //! Actual parameters (ISO 7185, 6.6.3).
 
-ghost use Rattle.std.specs.Prelude.{◌≡◌, IfOk, map};
-ghost use Rattle.pas_tree.specs.declared.expr.ActualValue.TheVariants as written;
+ghost use Rattle.std.specs.Prelude.{◌≡◌, [], ◌∷◌, ◌++◌, IfOk, OnOk, Some, map};
+ghost use Rattle.pas_tree.specs.declared.expr.ActualValue.TheVariants as actual_value;
 ghost use Rattle.pas_check.specs.Expr as spec;
 ghost use Rattle.pas_check.specs.Expr.{all_passed, expression_by, formals_at, found, given, place_of};
 ghost use Rattle.pas_check.specs.Outcome.{Gives};
 ghost use Rattle.pas_check.specs.Sight.{sight};
+ghost use Rattle.pas_check.specs.Written.{writes_whole, written};
 
 use crate::access::Reached;
 use crate::expr::Typed;
@@ -32,7 +33,7 @@ impl<'t> Seen<'t> {
         &self,
         actual: &'e pas_tree::Actual,
     ) -> Result<&'e pas_tree::Expr, Fault>
-        ensures written { IfOk result (λ value. actual.now.value ≡ written.Value value.now) }
+        ensures written { IfOk result (λ value. actual.now.value ≡ actual_value.Value value.now) }
         ensures value { Gives (λ e. found (sight self.now) e.now) (expression_by (given (sight self.now) actual.now).value) result }
     {
         match &actual.value {
@@ -61,6 +62,7 @@ impl<'t> Seen<'t> {
         actuals: &[pas_tree::Actual],
     ) -> Result<Items<Actual>, Fault>
         ensures value { Gives (λ list. tt) (all_passed (sight self.now) (formals_at (sight self.now) head) (map (given (sight self.now)) actuals.now)) result }
+        ensures writes { OnOk result (written made.new ≡ spec.all_passed_writes (sight self.now) (formals_at (sight self.now) head) (map (given (sight self.now)) actuals.now) (written made.old)) }
     {
         let mut list = Items::new(self.alloc);
         for (k, actual) in actuals.iter().enumerate() {
@@ -80,6 +82,7 @@ impl<'t> Seen<'t> {
         actual: &pas_tree::Actual,
     ) -> Result<Actual, Fault>
         ensures value { Gives (λ a. tt) (spec.passed (sight self.now) formal (given (sight self.now) actual.now)) result }
+        ensures writes { OnOk result (written made.new ≡ spec.passed_writes (sight self.now) formal (given (sight self.now) actual.now) (written made.old)) }
     {
         let value = self.value_actual(actual)?;
         let Some(formal) = formal else {
@@ -98,6 +101,7 @@ impl<'t> Seen<'t> {
         formal: Formal,
     ) -> Result<Actual, Fault>
         ensures value { Gives (λ a. tt) (spec.passed_to (sight self.now) formal (found (sight self.now) value.now)) result }
+        ensures writes { OnOk result (written made.new ≡ spec.passed_writes_by (sight self.now) (Some formal) (found (sight self.now) value.now) (written made.old)) }
     {
         if formal.by_var {
             self.passed_by_var(made, value, formal.of_type)
@@ -115,6 +119,7 @@ impl<'t> Seen<'t> {
         of_type: u32,
     ) -> Result<Actual, Fault>
         ensures value { Gives (λ a. tt) (spec.passed_by_value (sight self.now) (found (sight self.now) value.now) of_type) result }
+        ensures writes { OnOk result (written made.new ≡ (found (sight self.now) value.now).writes (written made.old)) }
     {
         match self.expr(made, value)? {
             Typed::Scalar { expr, boolean } if self.is_host(of_type, boolean) => {
@@ -137,6 +142,7 @@ impl<'t> Seen<'t> {
         of_type: u32,
     ) -> Result<Actual, Fault>
         ensures value { Gives (λ a. tt) (spec.passed_by_var (sight self.now) (found (sight self.now) value.now) of_type) result }
+        ensures writes { OnOk result (written made.new ≡ spec.variable_writes (sight self.now) (found (sight self.now) value.now) (written made.old)) }
     {
         let reached = self.variable_of(made, value)?;
         if reached.of_type != of_type {
@@ -151,6 +157,7 @@ impl<'t> Seen<'t> {
     #[cycle(expr)]
     pub fn variable_of(&self, made: &mut Made, value: &pas_tree::Expr) -> Result<Reached, Fault>
         ensures value { Gives place_of (found (sight self.now) value.now).variable result }
+        ensures writes { OnOk result (written made.new ≡ (found (sight self.now) value.now).writes (written made.old)) }
     {
         match value {
             pas_tree::Expr::Indexed { access, .. } => self.access(made, access),
@@ -191,6 +198,7 @@ impl<'t> Seen<'t> {
     #[tactic(auto, unfolding(crate::specs::Expr::threatened, crate::specs::Sight::sight))]
     pub fn threaten(&self, made: &mut Made, whole: Option<Variable>, at: u32) -> Result<(), Fault>
         ensures value { Gives (λ u. u) (spec.threatened (sight self.now) whole at) result }
+        ensures writes { OnOk result (written made.new ≡ writes_whole (sight self.now).level whole (written made.old)) }
     {
         let Some(variable) = whole else {
             return Ok(());
@@ -205,7 +213,9 @@ impl<'t> Seen<'t> {
     }
 }
 
-fn mark(made: &mut Made, variable: Variable) -> Result<(), AllocError> {
+fn mark(made: &mut Made, variable: Variable) -> Result<(), AllocError>
+    ensures { OnOk result (written made.new ≡ record (written made.old) { threats = made.old.threats.items ++ variable.at ∷ [] }) }
+{
     made.threats.push(variable.at)?;
     Ok(())
 }

@@ -4,6 +4,7 @@ ghost use Rattle.std.specs.Prelude.{◌≡◌};
 ghost use Rattle.pas_check.specs.Constant as spec;
 ghost use Rattle.pas_check.specs.Outcome.{Gives};
 ghost use Rattle.pas_check.specs.Sight.{sight};
+ghost use Rattle.pas_check.specs.Written.{written};
 
 use crate::fault::{Fault, Rule};
 use crate::meaning::{Meaning, Value};
@@ -27,6 +28,7 @@ impl<'t> Seen<'t> {
     #[tactic(auto, unfolding(crate::specs::Constant::constant, crate::specs::Constant::signed))]
     pub fn constant(&self, made: &mut Made, constant: &Constant) -> Result<Value, Fault>
         ensures value { Gives (λ x. x) (spec.constant (sight self.now) constant.now) result }
+        ensures writes { written made.new ≡ written made.old }
     {
         let value = self.unsigned(made, constant.value)?;
         match constant.sign {
@@ -45,6 +47,7 @@ impl<'t> Seen<'t> {
     #[tactic(auto, unfolding(crate::specs::Constant::unsigned))]
     fn unsigned(&self, made: &mut Made, value: ConstantValue) -> Result<Value, Fault>
         ensures value { Gives (λ x. x) (spec.unsigned (sight self.now) value) result }
+        ensures writes { written made.new ≡ written made.old }
     {
         match value {
             ConstantValue::Number(value) => Ok(Value {
@@ -59,6 +62,7 @@ impl<'t> Seen<'t> {
     #[tactic(auto, unfolding(crate::specs::Constant::constant_named))]
     fn constant_named(&self, made: &mut Made, name: Span) -> Result<Value, Fault>
         ensures value { Gives (λ x. x) (spec.constant_named (sight self.now) name) result }
+        ensures writes { written made.new ≡ written made.old }
     {
         match self.meaning(made, name)? {
             Meaning::Constant(value) => Ok(value),

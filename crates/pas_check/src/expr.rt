@@ -1,11 +1,12 @@
 //! Expressions (ISO 7185, 6.7).
 
-ghost use Rattle.std.specs.Prelude.{◌≡◌, true, false, IfErr, IfOk, map};
+ghost use Rattle.std.specs.Prelude.{◌≡◌, true, false, IfErr, IfOk, Ok, OnOk, map};
 ghost use Rattle.std.specs.Option.{option_map};
 ghost use Rattle.pas_check.specs.Expr as spec;
-ghost use Rattle.pas_check.specs.Expr.{found, given, scalar, type_of};
+ghost use Rattle.pas_check.specs.Expr.{actual_writes, all_passed_writes, call_writes, formals_at, found, given, meant, scalar, type_of};
 ghost use Rattle.pas_check.specs.Outcome.{Gives, IsBroken, IsMemory};
 ghost use Rattle.pas_check.specs.Sight.{host_at, sight};
+ghost use Rattle.pas_check.specs.Written.{writes_in_turn, written};
 
 use crate::access::Reached;
 use crate::constant::number;
@@ -105,6 +106,7 @@ impl<'t> Seen<'t> {
     #[cycle(expr)]
     pub fn expr(&self, made: &mut Made, e: &pas_tree::Expr) -> Result<Typed, Fault>
         ensures value { Gives type_of (found (sight self.now) e.now).value result }
+        ensures writes { OnOk result (written made.new ≡ (found (sight self.now) e.now).writes (written made.old)) }
     {
         match e {
             pas_tree::Expr::Number { value, span } => {
@@ -147,6 +149,7 @@ impl<'t> Seen<'t> {
     #[cycle(expr)]
     pub fn scalar(&self, made: &mut Made, e: &pas_tree::Expr) -> Result<(Expr, bool), Fault>
         ensures value { Gives (λ r. r.1) (spec.scalar_of (found (sight self.now) e.now)) result }
+        ensures writes { OnOk result (written made.new ≡ (found (sight self.now) e.now).writes (written made.old)) }
     {
         match self.expr(made, e)? {
             Typed::Scalar { expr, boolean } => Ok((expr, boolean)),
@@ -159,6 +162,7 @@ impl<'t> Seen<'t> {
     #[cycle(expr)]
     pub fn of_host(&self, made: &mut Made, e: &pas_tree::Expr, boolean: bool) -> Result<Expr, Fault>
         ensures value { Gives (λ x. tt) (spec.of_host boolean (found (sight self.now) e.now)) result }
+        ensures writes { OnOk result (written made.new ≡ (found (sight self.now) e.now).writes (written made.old)) }
     {
         let (expr, host) = self.scalar(made, e)?;
         if host != boolean {
@@ -256,6 +260,7 @@ impl<'t> Seen<'t> {
         left: &pas_tree::Expr,
     ) -> Result<(Expr, bool), Fault>
         ensures value { Gives (λ r. r.1) (spec.left_operand op (found (sight self.now) left.now)) result }
+        ensures writes { OnOk result (written made.new ≡ (found (sight self.now) left.now).writes (written made.old)) }
     {
         match operand_host(op) {
             Some(host) => Ok((self.of_host(made, left, host)?, host)),
@@ -295,6 +300,7 @@ impl<'t> Seen<'t> {
         actuals: &[pas_tree::Actual],
     ) -> Result<Typed, Fault>
         ensures value { Gives type_of (spec.named (sight self.now) name (map (given (sight self.now)) actuals.now)) result }
+        ensures writes { OnOk result (written made.new ≡ call_writes (sight self.now) (meant (sight self.now) name) (map (given (sight self.now)) actuals.now) (written made.old)) }
     {
         let meaning = self.meaning(made, name)?;
         if actuals.is_empty() {
@@ -330,6 +336,7 @@ impl<'t> Seen<'t> {
         actuals: &[pas_tree::Actual],
     ) -> Result<Typed, Fault>
         ensures value { Gives type_of (spec.call_by (sight self.now) meaning name.start (map (given (sight self.now)) actuals.now)) result }
+        ensures writes { OnOk result (written made.new ≡ call_writes (sight self.now) (Ok meaning) (map (given (sight self.now)) actuals.now) (written made.old)) }
     {
         match meaning {
             Meaning::Routine {
@@ -350,6 +357,7 @@ impl<'t> Seen<'t> {
         actuals: &[pas_tree::Actual],
     ) -> Result<Typed, Fault>
         ensures value { Gives type_of (spec.required_call function name.start (map (given (sight self.now)) actuals.now)) result }
+        ensures writes { OnOk result (written made.new ≡ writes_in_turn actual_writes (map (given (sight self.now)) actuals.now) (written made.old)) }
     {
         if actuals.len() == 1 {
             self.required_of(made, function, name, &actuals[0])
@@ -368,6 +376,7 @@ impl<'t> Seen<'t> {
         actual: &pas_tree::Actual,
     ) -> Result<Typed, Fault>
         ensures value { Gives type_of (spec.required_of function (given (sight self.now) actual.now)) result }
+        ensures writes { OnOk result (written made.new ≡ actual_writes (given (sight self.now) actual.now) (written made.old)) }
     {
         let value = self.value_actual(actual)?;
         let (operand, boolean) = self.scalar(made, value)?;
@@ -389,6 +398,7 @@ impl<'t> Seen<'t> {
         actuals: &[pas_tree::Actual],
     ) -> Result<Typed, Fault>
         ensures value { Gives type_of (spec.function_call (sight self.now) head name.start (map (given (sight self.now)) actuals.now)) result }
+        ensures writes { OnOk result (written made.new ≡ all_passed_writes (sight self.now) (formals_at (sight self.now) head) (map (given (sight self.now)) actuals.now) (written made.old)) }
     {
         let Some(callee) = self.callee(head) else {
             return Err(Rule::Kind.broken(name.start));

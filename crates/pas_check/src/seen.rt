@@ -7,6 +7,7 @@ ghost use Rattle.pas_check.specs.Names as spec;
 ghost use Rattle.pas_check.specs.Outcome.{Gives, IsMemory};
 ghost use Rattle.pas_check.specs.Rules as rules;
 ghost use Rattle.pas_check.specs.Sight.{innermost, parts_at, sight};
+ghost use Rattle.pas_check.specs.Written.{written};
 
 use crate::fault::{Fault, Rule};
 use crate::frame::Frame;
@@ -62,6 +63,7 @@ impl Made {
     pub fn spell(&mut self, text: &[u8], span: Span) -> Result<(), Fault>
         ensures name { OnOk result (self.new.lower.items ≡ spec.name_at text.now span) }
         ensures kept { self.new ≡ record self.old { lower = self.new.lower } }
+        ensures writes { written self.new ≡ written self.old }
         ensures memory { IfErr result IsMemory }
     {
         match lower_case(spelling(text, span), &mut self.lower) {
@@ -72,6 +74,7 @@ impl Made {
 
     /// The number of a new variable of the routine at hand.
     pub fn add_own(&mut self, name: Span, kind: VarKind, of_type: u32) -> Result<u32, Fault>
+        ensures writes { written self.new ≡ written self.old }
         ensures memory { IfErr result IsMemory }
     {
         let routine = self.frame.routine;
@@ -90,6 +93,7 @@ impl Made {
         kind: VarKind,
         of_type: u32,
     ) -> Result<u32, Fault>
+        ensures writes { written self.new ≡ written self.old }
         ensures memory { IfErr result IsMemory }
     {
         let Ok(number) = u32::try_from(self.vars.len()) else {
@@ -138,6 +142,7 @@ impl<'t> Seen<'t> {
     pub fn meaning(&self, made: &mut Made, span: Span) -> Result<Meaning, Fault>
         ensures value { Gives (λ m. m) (meant (sight self.now) span) result }
         ensures kept { made.new ≡ record made.old { lower = made.new.lower } }
+        ensures writes { written made.new ≡ written made.old }
     {
         made.spell(self.text, span)?;
         match denoted(self.scopes.as_slice(), made.lower.as_slice()) {
@@ -154,6 +159,7 @@ impl<'t> Seen<'t> {
     pub fn claim(&self, made: &mut Made, span: Span) -> Result<(), Fault>
         ensures value { Gives (λ u. u) (claimed (sight self.now) span) result }
         ensures kept { made.new ≡ record made.old { lower = made.new.lower } }
+        ensures writes { written made.new ≡ written made.old }
     {
         made.spell(self.text, span)?;
         if self.is_declared_before(made.lower.as_slice(), span.start) {
@@ -181,6 +187,7 @@ impl<'t> Seen<'t> {
     #[tactic(auto, unfolding(crate::specs::Declarations::defined, crate::specs::Sight::sight))]
     pub fn define(&mut self, made: &mut Made, span: Span, meaning: Meaning) -> Result<(), Fault>
         ensures defined { OnOk result (sight self.new ≡ defined (sight self.old) span meaning) }
+        ensures writes { written made.new ≡ written made.old }
         ensures memory { IfErr result IsMemory }
     {
         made.spell(self.text, span)?;
