@@ -118,6 +118,7 @@ impl<'t> Checker<'t> {
         Ok(cond)
     }
 
+    #[tactic(auto, unfolding(crate::specs::Written::written))]
     fn add_assert(&mut self, assert: Assert) -> Result<u32, AllocError>
         ensures kept { self.new.seen ≡ self.old.seen }
         ensures writes { written self.new.made ≡ written self.old.made }
@@ -127,7 +128,7 @@ impl<'t> Checker<'t> {
         Ok(number)
     }
 
-    #[tactic(auto, unfolding(crate::specs::Statements::stated, crate::specs::Statements::stated_body, crate::specs::Statements::stated_arm))]
+    #[tactic(auto, unfolding(crate::specs::Statements::stated, crate::specs::Statements::stated_body, crate::specs::Statements::stated_arm, crate::specs::Writes::statement_writes, crate::specs::Writes::body_writes, crate::specs::Writes::arm_writes))]
     #[cycle(statement)]
     fn body(&mut self, body: &pas_tree::Body, at: Span) -> Result<Body, Fault>
         ensures value { Gives (λ b. tt) (stated_body body.now at.start (sight self.old.seen)) result }
@@ -262,9 +263,10 @@ impl<'t> Seen<'t> {
     }
 }
 
+#[tactic(auto, unfolding(crate::specs::Written::written))]
 fn assign_result(made: &mut Made, head: usize) -> Result<(), AllocError>
     ensures { OnOk result (written made.new ≡ assigns (Some head) (written made.old)) }
 {
-    made.assigned.insert(head, ())?;
+    made.assigned.push(head)?;
     Ok(())
 }
