@@ -38,10 +38,10 @@ statement_writes_are s v u xs w asserted done same is kept body =
     ∙ ap (body_writes (out-Statement s).body v) (is ∙ ap (λ ys. writes_in_turn (assertion_writes v) ys w) same)
     ∙ sym (ap (λ (t : Writing). t v w) (fold_out-Statement Writing Writing Writing body_step arm_step statement_step s))
 
-pub arm_writes_are : (a : Element) (v u : Sight) (w done : Written) → u ≡ v → done ≡ statement_writes (out-Element a).body u w → done ≡ arm_writes a v w
+pub arm_writes_are : (a : Element) (v u : Sight) (w before done : Written) → u ≡ v → before ≡ w → done ≡ statement_writes (out-Element a).body u before → done ≡ arm_writes a v w
 unfolding statement_writes body_writes arm_writes
-arm_writes_are a v u w done kept is =
-    is ∙ ap (λ (t : Sight). statement_writes (out-Element a).body t w) kept
+arm_writes_are a v u w before done kept same is =
+    is ∙ ap (λ (t : Sight). statement_writes (out-Element a).body t before) kept ∙ ap (statement_writes (out-Element a).body v) same
     ∙ sym (ap (λ (t : Writing). t v w) (fold_out-Element Writing Writing Writing body_step arm_step statement_step a))
 
 -- ---- what is written
