@@ -1,5 +1,5 @@
 -- What is written, one statement or actual after the other.
-use Rattle.std.proofs.Common.{◌≡◌, ℕ, ◌+◌, ◌<◌, List, ◌∷◌, length, get_or, drop, map, Option, Some, None, Ok, sym, ap, ◌∙◌, if◌then◌else◌, nat_eq}
+use Rattle.std.proofs.Common.{◌≡◌, ℕ, ◌+◌, ◌<◌, List, length, get_or, drop, map, Option, Some, None, Ok, sym, ap, ◌∙◌, if◌then◌else◌, nat_eq}
 use Rattle.std.specs.Option.{option_map}
 use Rattle.pas_tree.specs.declared.expr.Access.{Access}
 use Rattle.pas_tree.specs.declared.expr.Actual.{Actual}
@@ -13,10 +13,9 @@ use Rattle.pas_tree.specs.declared.statement.Statement.{Statement}
 use Rattle.pas_check.specs.declared.meaning.Meaning.{Meaning}
 use Rattle.pas_check.specs.declared.meaning.Variable.{Variable}
 use Rattle.pas_check.specs.Expr.{Found, Place, found, found_writes, given, given_writes, led, meant, reached, value_given}
-use Rattle.pas_check.specs.Outcome.{Outcome}
 use Rattle.pas_check.specs.Sight.{Sight}
 use Rattle.pas_check.specs.Statement.{target_by}
-use Rattle.pas_check.specs.Writes.{Writing, arm_step, arm_writes, assertion_writes, assignment_writes, body_step, body_writes, in_turn_writes, item_writes, statement_step, statement_writes, target_writes, targeted_writes, width_writes}
+use Rattle.pas_check.specs.Writes.{Writing, arm_step, arm_writes, assertion_writes, assignment_writes, body_step, body_writes, item_writes, statement_step, statement_writes, target_writes, targeted_writes, width_writes}
 use Rattle.pas_check.specs.Written.{Writes, Written, assigns, writes_in_turn, writes_whole}
 use Rattle.pas_check.proofs.Found.{given_value, given_width}
 use Rattle.pas_check.proofs.Passing.{drop_next}
