@@ -14,9 +14,10 @@ use Rattle.pas_tree.specs.declared.expr.Expr.{Expr}
 use Rattle.pas_tree.specs.declared.expr.Expr.TheVariants as form
 use Rattle.pas_check.specs.declared.fault.Rule.TheVariants as rule
 use Rattle.pas_check.specs.declared.meaning.Variable.{Variable}
-use Rattle.pas_check.specs.Expr.{Found, Given, Reach, access_found, access_step, accessed, actual_step, expr_step, found, given, lower_first, reached, value_given, value_step, variable_named}
+use Rattle.pas_check.specs.Expr.{Found, Given, Reach, access_found, access_step, accessed, actual_step, expr_step, found, found_writes, given, lower_first, reached, value_given, value_step, variable_named}
 use Rattle.pas_check.specs.Outcome.{Outcome, ◌>>=◌}
 use Rattle.pas_check.specs.Sight.{Sight}
+use Rattle.pas_check.specs.Written.{Written, writes_in_turn}
 
 module _ (v : Sight) where
   same_span : (x : Expr-F ActualValue Expr Access Actual) → span_of_form (map-Expr ActualValue Expr Access Actual (Result Found ℕ) Found Reach Given (value_given v) (found v) (access_found v) (given v) x) ≡ span_of_form x
@@ -63,6 +64,12 @@ module _ (v : Sight) where
       ap (λ (r : Reach). r.place) (fold_out-Access (Result Found ℕ) Found Reach Given value_step (expr_step v) (access_step v) actual_step a)
       ∙ ap (λ (o : Outcome Variable). o >>= (λ y. reached v y (map (found v) (out-Access a).subscripts))) is
       ∙ ap (λ xs. reached v x (map (found v) xs)) (sym same)
+
+  pub access_writes : (a : Access) (subscripts : List Expr) (w : Written) → subscripts ≡ (out-Access a).subscripts → (access_found v a).writes w ≡ writes_in_turn found_writes (map (found v) subscripts) w
+  unfolding found access_found given value_given
+  access_writes a subscripts w same =
+      ap (λ (r : Reach). r.writes w) (fold_out-Access (Result Found ℕ) Found Reach Given value_step (expr_step v) (access_step v) actual_step a)
+      ∙ ap (λ xs. writes_in_turn found_writes (map (found v) xs) w) (sym same)
 
   -- a call is no variable
   call_by_cases : (name : Span) (actuals : List Actual) (span : Span) → (actuals ≡ [] → ⊥) → (f : Found) → f ≡ expr_step v (Expr-F.Name name (map (given v) actuals) span) → f.variable ≡ Err (lower_first f.first rule.VarActual f.value)

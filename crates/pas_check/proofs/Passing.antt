@@ -8,10 +8,11 @@ use Rattle.pas_check.specs.declared.actual.Formal.{Formal}
 use Rattle.pas_check.specs.declared.fault.Fault.{Fault}
 use Rattle.pas_check.specs.declared.fault.Rule.TheVariants as rule
 use Rattle.pas_check.specs.declared.meaning.Variable.{Variable}
-use Rattle.pas_check.specs.Expr.{all_passed, element, first_of, found, given, led, lower_first, others, passed, reached, subscript}
+use Rattle.pas_check.specs.Expr.{all_passed, all_passed_writes, element, first_of, found, given, led, lower_first, others, passed, passed_writes, reached, subscript}
 use Rattle.pas_check.specs.Outcome.{Gives, IsBroken, Outcome, ◌>>=◌}
 use Rattle.pas_check.specs.Sight.{Sight, parts_at}
 use Rattle.pas_check.specs.Statement.{all_read, read_into}
+use Rattle.pas_check.specs.Written.{Writes, Written, writes_in_turn}
 
 -- the answer is a fault, which is the defined one
 pub gives_wrong : {A B : Type 0} (shown : A → B) (defined : Outcome B) (r : Outcome A) (e : Fault) → r ≡ Err e → (IsBroken e → defined ≡ Err e) → Gives shown defined r
@@ -33,6 +34,11 @@ others_drop (f ∷ []) zero = refl
 others_drop (f ∷ (g ∷ formals)) zero = refl
 others_drop (f ∷ formals) (suc k) = others_drop formals k
 
+-- the part at hand writes, and then the others
+pub writes_next : {A B : Type 0} (f : A → B) (writes : B → Writes) (xs : List A) (k : ℕ) (x : A) (w : Written) → k < length xs → x ≡ get_or xs k x
+    → writes_in_turn writes (map f (drop k xs)) w ≡ writes_in_turn writes (map f (drop (k + 1) xs)) (writes (f x) w)
+writes_next f writes xs k x w h e = ap (λ ys. writes_in_turn writes (map f ys) w) (drop_next xs k x h e)
+
 module _ (v : Sight) where
   -- the actual at hand, and then the others
   pub passed_next : (formals : List Formal) (actuals : List Actual) (k : ℕ) (a : Actual) → k < length actuals → a ≡ get_or actuals k a
@@ -42,6 +48,14 @@ module _ (v : Sight) where
       ap (λ xs. all_passed v (drop k formals) (map (given v) xs)) (drop_next actuals k a h e)
       ∙ ap (λ f. passed v f (given v a) >>= (λ done. all_passed v (others (drop k formals)) (map (given v) (drop (k + 1) actuals)))) (first_drop formals k)
       ∙ ap (λ fs. passed v (slice_get formals k) (given v a) >>= (λ done. all_passed v fs (map (given v) (drop (k + 1) actuals)))) (others_drop formals k ∙ ap (λ n. drop n formals) more)
+
+  pub passed_writes_next : (formals : List Formal) (actuals : List Actual) (k : ℕ) (a : Actual) (w : Written) → k < length actuals → a ≡ get_or actuals k a
+      → all_passed_writes v (drop k formals) (map (given v) (drop k actuals)) w ≡ all_passed_writes v (drop (k + 1) formals) (map (given v) (drop (k + 1) actuals)) (passed_writes v (slice_get formals k) (given v a) w)
+  passed_writes_next formals actuals k a w h e =
+      let more : suc k ≡ k + 1 = omega arith in
+      ap (λ xs. all_passed_writes v (drop k formals) (map (given v) xs) w) (drop_next actuals k a h e)
+      ∙ ap (λ f. all_passed_writes v (others (drop k formals)) (map (given v) (drop (k + 1) actuals)) (passed_writes v f (given v a) w)) (first_drop formals k)
+      ∙ ap (λ fs. all_passed_writes v fs (map (given v) (drop (k + 1) actuals)) (passed_writes v (slice_get formals k) (given v a) w)) (others_drop formals k ∙ ap (λ n. drop n formals) more)
 
   -- the subscript at hand, and then the others
   pub led_next : (subscripts : List Expr) (k t : ℕ) (s : Expr) → k < length subscripts → s ≡ get_or subscripts k s

@@ -1,10 +1,10 @@
 //! Actual parameters (ISO 7185, 6.6.3).
 
-ghost use Rattle.std.specs.Prelude.{◌≡◌, [], ◌∷◌, ◌++◌, IfOk, OnOk, Some, map};
+ghost use Rattle.std.specs.Prelude.{◌≡◌, [], ◌∷◌, ◌++◌, IfErr, IfOk, OnOk, map};
 ghost use Rattle.pas_tree.specs.declared.expr.ActualValue.TheVariants as actual_value;
 ghost use Rattle.pas_check.specs.Expr as spec;
 ghost use Rattle.pas_check.specs.Expr.{all_passed, expression_by, formals_at, found, given, place_of};
-ghost use Rattle.pas_check.specs.Outcome.{Gives};
+ghost use Rattle.pas_check.specs.Outcome.{Gives, IsMemory};
 ghost use Rattle.pas_check.specs.Sight.{sight};
 ghost use Rattle.pas_check.specs.Written.{writes_whole, written};
 
@@ -17,7 +17,6 @@ use pas_program::Actual;
 use pas_tree::ActualValue;
 use px_base::Span;
 use sqlite_items::Items;
-use std::alloc::AllocError;
 
 /// A parameter as its callers see it.
 #[derive(Clone, Copy, Debug, PartialEq, Eq)]
@@ -204,7 +203,8 @@ impl<'t> Seen<'t> {
             return Ok(());
         };
         if variable.level != self.level {
-            return mark(made, variable).map_err(Fault::Memory);
+            mark(made, variable)?;
+            return Ok(());
         }
         if self.looping.contains_key(&variable.at) {
             return Err(Rule::Control.broken(at));
@@ -213,9 +213,13 @@ impl<'t> Seen<'t> {
     }
 }
 
-fn mark(made: &mut Made, variable: Variable) -> Result<(), AllocError>
-    ensures { OnOk result (written made.new ≡ record (written made.old) { threats = made.old.threats.items ++ variable.at ∷ [] }) }
+#[tactic(auto, unfolding(crate::specs::Written::written))]
+fn mark(made: &mut Made, variable: Variable) -> Result<(), Fault>
+    ensures threats { OnOk result (written made.new ≡ record (written made.old) { threats = (written made.old).threats ++ variable.at ∷ [] }) }
+    ensures memory { IfErr result IsMemory }
 {
-    made.threats.push(variable.at)?;
-    Ok(())
+    match made.threats.push(variable.at) {
+        Ok(()) => Ok(()),
+        Err(error) => Err(Fault::Memory(error.into())),
+    }
 }

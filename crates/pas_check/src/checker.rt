@@ -76,7 +76,7 @@ impl<'t> Checker<'t> {
                 asserts: Items::new(alloc),
                 frame,
                 threats: Vec::new(alloc),
-                assigned: IndexMap::new(alloc),
+                assigned: Vec::new(alloc),
                 lower: Vec::new(alloc),
             },
         };

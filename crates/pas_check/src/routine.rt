@@ -543,7 +543,7 @@ impl<'t> Checker<'t> {
         let Some(head) = head else {
             return Ok(());
         };
-        let assigned = self.made.assigned.contains_key(&head);
+        let assigned = self.made.assigned.as_slice().contains(&head);
         match self.seen.heads.get(head) {
             Some(head) => head.result_assigned(assigned),
             None => Ok(()),

@@ -52,14 +52,15 @@ pub struct Made {
     pub frame: Frame,
     /// The variables that the routine at hand threatens and that are not its own, by their places.
     pub threats: Vec<u32>,
-    /// The functions whose results are assigned to, by their headings.
-    pub assigned: IndexMap<usize, ()>,
+    /// The functions whose names the statement part at hand assigns to, by their headings.
+    pub assigned: Vec<usize>,
     /// The name that was looked up last, in lower case.
     pub lower: Vec<u8>,
 }
 
 impl Made {
     /// Spells the name that stands at a span of a text.
+    #[tactic(auto, unfolding(crate::specs::Written::written))]
     pub fn spell(&mut self, text: &[u8], span: Span) -> Result<(), Fault>
         ensures name { OnOk result (self.new.lower.items ≡ spec.name_at text.now span) }
         ensures kept { self.new ≡ record self.old { lower = self.new.lower } }
@@ -73,6 +74,7 @@ impl Made {
     }
 
     /// The number of a new variable of the routine at hand.
+    #[tactic(auto, unfolding(crate::specs::Written::written))]
     pub fn add_own(&mut self, name: Span, kind: VarKind, of_type: u32) -> Result<u32, Fault>
         ensures writes { written self.new ≡ written self.old }
         ensures memory { IfErr result IsMemory }
@@ -86,6 +88,7 @@ impl Made {
     }
 
     /// The number of a new variable of any routine.
+    #[tactic(auto, unfolding(crate::specs::Written::written))]
     pub fn add_variable(
         &mut self,
         name: Span,
