@@ -42,3 +42,11 @@ threatens v at = record v { threatened = λ n. nat_eq at n || v.threatened n }
 abbrev pub all_threatened : Sight → List ℕ → Sight
 all_threatened v [] = v
 all_threatened v (at ∷ rest) = all_threatened (threatens v at) rest
+
+-- the name of a function is assigned to, by its heading; so are several
+abbrev pub assigned_to : Sight → ℕ → Sight
+assigned_to v head = record v { assigned = λ n. nat_eq head n || v.assigned n }
+
+abbrev pub all_assigned : Sight → List ℕ → Sight
+all_assigned v [] = v
+all_assigned v (head ∷ rest) = all_assigned (assigned_to v head) rest

@@ -1,11 +1,12 @@
 -- The type of an expression, or the first rule that it breaks (ISO 7185, 6.5, 6.6.3 and 6.7). A rule that needs the type of a part
 -- is not asked where the part itself breaks a rule.
-use Rattle.std.specs.Prelude.{ℕ, Bool, true, false, ◌&&◌, not, nat_eq, nat_lt, List, [], ◌∷◌, length, Option, Some, None, Result, Ok, Err, slice_get, if◌then◌else◌}
+use Rattle.std.specs.Prelude.{ℕ, Bool, true, false, ◌&&◌, ◌||◌, not, nat_eq, nat_lt, List, [], ◌∷◌, length, Option, Some, None, Result, Ok, Err, slice_get, if◌then◌else◌}
 use Rattle.std.specs.Bool.{beq}
 use Rattle.std.specs.Option.{option_map}
 use Rattle.px_base.specs.declared.operator.BinOp.{BinOp}
 use Rattle.px_base.specs.declared.operator.BinOp.TheVariants as op
 use Rattle.px_base.specs.declared.place.Span.{Span}
+use Rattle.pas_program.specs.Tables.{holds_of}
 use Rattle.pas_tree.specs.Expr.{span_of_form}
 use Rattle.pas_tree.specs.declared.expr.Access.{Access}
 use Rattle.pas_tree.specs.declared.expr.Actual.{Actual}
@@ -28,6 +29,7 @@ use Rattle.pas_check.specs.declared.meaning.Required.TheVariants as required
 use Rattle.pas_check.specs.declared.meaning.Variable.{Variable}
 use Rattle.pas_check.specs.declared.routine.Callee.{Callee}
 use Rattle.pas_check.specs.declared.scope.Declaration.{Declaration}
+use Rattle.pas_check.specs.Labels.{Labelled}
 use Rattle.pas_check.specs.Outcome.{Outcome, ◌>>=◌, needed, unless}
 use Rattle.pas_check.specs.Rules.{code_of, is_call_in_assertion, is_declared_before, is_other_count, is_other_host, is_other_type, is_threat, variable_of_name}
 use Rattle.pas_check.specs.Names.{name_at}
@@ -268,12 +270,16 @@ type_of_result None = 0
 type_of_result (Some x) = x.of_type
 
 -- the result of a function, inside its block
-abbrev pub if_inside : Option Heading → Option Variable
-if_inside None = None
-if_inside (Some h) = if h.inside then h.result else None
+abbrev pub result_by : Option Heading → Option Variable
+result_by None = None
+result_by (Some h) = h.result
+
+abbrev pub is_inside : List Labelled → ℕ → Bool
+is_inside [] head = false
+is_inside (block ∷ around) head = holds_of (λ (own : ℕ). nat_eq own head) block.function || is_inside around head
 
 abbrev pub result_inside : Sight → ℕ → Option Variable
-result_inside v head = if_inside (slice_get v.headings head)
+result_inside v head = if is_inside v.labels head then result_by (slice_get v.headings head) else None
 
 -- what a call needs of a routine: how many formals it has, and the type of its result
 pub record Call : Type 0 where

@@ -1,6 +1,6 @@
--- The heading of a routine (ISO 7185, 6.6.1 and 6.6.2), and what it may answer: what is seen after it with the names of the
--- routine's own block, or the fault of the first rule that it breaks. Numbers of variables and of routines are any.
-use Rattle.std.specs.Prelude.{◌≡◌, ℕ, ◌+◌, List, [], ◌∷◌, ◌++◌, length, flat_map, false, Option, Some, None, Ok, Err}
+-- The heading of a routine (ISO 7185, 6.6.1 and 6.6.2), and what it may answer: what is seen after it with
+-- what its block begins with, or the fault of the first rule that it breaks. Numbers of variables and of routines are any.
+use Rattle.std.specs.Prelude.{◌≡◌, ℕ, ◌+◌, List, [], ◌∷◌, ◌++◌, length, flat_map, Bool, Option, Some, None, Ok, Err}
 use Rattle.std.specs.Option.{option_map}
 use Rattle.px_base.specs.declared.place.Span.{Span}
 use Rattle.pas_program.specs.declared.variable.VarKind.TheVariants as kind
@@ -10,6 +10,8 @@ use Rattle.pas_tree.specs.declared.block.RoutineBody.TheViews.{out-Routine}
 use Rattle.pas_check.specs.declared.fault.Fault.{Fault}
 use Rattle.pas_check.specs.declared.meaning.Meaning.TheVariants as means
 use Rattle.pas_check.specs.declared.meaning.Variable.{Variable}
+use Rattle.pas_check.specs.declared.heading.Function.{Function}
+use Rattle.pas_check.specs.declared.heading.Opened.{Opened}
 use Rattle.pas_check.specs.Block.{names_in, section_names}
 use Rattle.pas_check.specs.Declarations.{InTurn, defined}
 use Rattle.pas_check.specs.Expr.{claimed}
@@ -60,15 +62,36 @@ result_read v (Some name) = do
 abbrev pub result_of : ℕ → Span → ℕ → ℕ → Variable
 result_of level name number t = record { number = number; at = name.start; level = level; kind = kind.Result; of_type = t }
 
+-- the function that has a variable for its result, by its heading and the place of its name
+abbrev pub function_of : ℕ → ℕ → Option Variable → Option Function
+function_of head at None = None
+function_of head at (Some x) = Some (record { head = head; at = at })
+
+-- A routine whose heading was read: how many routines are around what it declares, whether it is a function, what its block
+-- declares, and the function whose result its block gives.
+pub record Opening : Type 0 where
+  pub level : ℕ
+  pub function : Bool
+  pub names : Names
+  pub result : Option Function
+
+abbrev pub opening_of : Opened → Opening
+opening_of o = record { level = o.frame.level; function = o.function; names = o.names; result = o.result }
+
 -- callers see the routine
 abbrev pub headed : Sight → Heading → Sight
 headed v h = record v { headings = v.headings ++ h ∷ [] }
 
-pub data HeadingMay (v : Sight) (r : Routine) (later : Option Block) : Outcome (Sight × Names) → Type 0 where
+-- what its block begins with, where the heading begins at a sight and its formals end in another one
+abbrev pub opening : Sight → Routine → Formed → Option Variable → Opening
+opening v r s result =
+    record { level = v.level + 1; function = (out-Routine r).function; names = innermost s.0.blocks; result = function_of (length v.headings) (out-Routine r).name.start result }
+
+pub data HeadingMay (v : Sight) (r : Routine) (later : Option Block) : Outcome (Sight × Opening) → Type 0 where
   not_begun : {f : Fault} → begun v r ≡ Err f → HeadingMay v r later (Err f)
   in_formals : {u : Sight} {f : Fault} (l : Labelled) → begun v r ≡ Ok u → InTurn (SectionMay (v.level + 1)) (inside u (own_names u r later) l, []) (out-Routine r).formals (Err f) → HeadingMay v r later (Err f)
   in_result : {u : Sight} {s : Formed} {f : Fault} (l : Labelled) → begun v r ≡ Ok u → InTurn (SectionMay (v.level + 1)) (inside u (own_names u r later) l, []) (out-Routine r).formals (Ok s)
       → result_read (outside s.0) (out-Routine r).result ≡ Err f → HeadingMay v r later (Err f)
   whole : {u : Sight} {s : Formed} {t : Option ℕ} (l : Labelled) (number : ℕ) → begun v r ≡ Ok u → InTurn (SectionMay (v.level + 1)) (inside u (own_names u r later) l, []) (out-Routine r).formals (Ok s)
       → result_read (outside s.0) (out-Routine r).result ≡ Ok t
-      → HeadingMay v r later (Ok (headed (outside s.0) (record { formals = s.1; result = option_map (result_of (v.level + 1) (out-Routine r).name number) t; inside = false }), innermost s.0.blocks))
+      → HeadingMay v r later (Ok (headed (outside s.0) (record { formals = s.1; result = option_map (result_of (v.level + 1) (out-Routine r).name number) t }), opening v r s (option_map (result_of (v.level + 1) (out-Routine r).name number) t)))

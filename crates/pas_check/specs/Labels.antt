@@ -1,5 +1,5 @@
 -- Labels, where statements stand, and where a `goto` may lead (ISO 7185, 6.1.6, 6.8.1 and 6.8.2.4).
-use Rattle.std.specs.Prelude.{◌≡◌, ℕ, Bool, true, false, ◌&&◌, ◌||◌, not, List, [], ◌∷◌, ◌++◌, nat_eq, nat_le, is_some, Option, Some, None, Ok, Err}
+use Rattle.std.specs.Prelude.{◌≡◌, ℕ, Bool, true, false, ◌&&◌, ◌||◌, not, List, [], ◌∷◌, ◌++◌, nat_eq, nat_le, Option, Some, None, Ok, Err, if◌then◌else◌}
 use Rattle.std.specs.HashMap.{HashMap}
 use Rattle.std.specs.declared.hash.BuildHasherDefault.{BuildHasherDefault}
 use Rattle.std.specs.declared.hash.FoldHasher.{FoldHasher}
@@ -12,7 +12,7 @@ use Rattle.pas_check.specs.declared.label.LabelDecl.{LabelDecl}
 use Rattle.pas_check.specs.declared.label.Placement.{Placement}
 use Rattle.pas_check.specs.declared.scope.Scope.{Scope}
 use Rattle.pas_check.specs.Outcome.{Outcome, ◌>>=◌, unless}
-use Rattle.pas_check.specs.Rules.{is_label_too_great, is_misplaced}
+use Rattle.pas_check.specs.Rules.{is_label_again, is_label_too_great, is_misplaced, is_unplaced}
 
 -- ---- by paths
 
@@ -38,13 +38,14 @@ pub data MayReach (is_sequence : Path → Bool) (p : Path) : Path → Type 0 whe
 abbrev pub Labels : Type 0
 Labels = HashMap ℕ LabelDecl (BuildHasherDefault FoldHasher)
 
--- a block by the number of its routine, and its labels
+-- a block by the number of its routine, the function whose block it is, by its heading, and its labels
 pub record Labelled : Type 0 where
   pub routine : ℕ
+  pub function : Option ℕ
   pub labels : Labels
 
 abbrev pub labelled : Scope → Labelled
-labelled s = record { routine = s.routine; labels = s.labels }
+labelled s = record { routine = s.routine; function = s.function; labels = s.labels }
 
 -- of a label's statement: the first and the last place of what may leave for it, and whether it is a member of the outermost
 -- sequence, for which inner routines may leave too
@@ -62,11 +63,23 @@ first_scope (s ∷ around) = Some s
 
 -- ---- the tests
 
--- a label of a label part
-abbrev pub declared_label : Labels → Label → Outcome (Unit {0})
-declared_label labels l =
-    unless (is_some (get nat_eq labels l.value)) rule.DeclaredOnce l.at.start
-    (unless (is_label_too_great l.value) rule.LabelValue l.at.start (Ok tt))
+-- a label of a label part, before which others stand there
+abbrev pub label_declared : List ℕ → Label → Outcome (List ℕ)
+label_declared before l =
+    unless (is_label_again l.value before) rule.DeclaredOnce l.at.start
+    (unless (is_label_too_great l.value) rule.LabelValue l.at.start (Ok (before ++ l.value ∷ [])))
+
+abbrev pub labels_declared : List ℕ → List Label → Outcome (List ℕ)
+labels_declared before [] = Ok before
+labels_declared before (l ∷ rest) = do
+  all ← label_declared before l
+  labels_declared all rest
+
+-- the first declaration of a value, where none stands before
+abbrev pub declaration_of : ℕ → List Label → Option LabelDecl → Option LabelDecl
+declaration_of n [] before = before
+declaration_of n (l ∷ rest) None = declaration_of n rest (if nat_eq l.value n then Some (record { at = l.at.start; placed = None }) else None)
+declaration_of n (l ∷ rest) (Some d) = declaration_of n rest (Some d)
 
 abbrev pub place_by : Option Placement → Option ℕ
 place_by None = None
@@ -79,6 +92,14 @@ place_of (Some d) = place_by d.placed
 -- the place of the first statement that has a label of the block
 abbrev pub place_in : Labels → ℕ → Option ℕ
 place_in labels value = place_of (get nat_eq labels value)
+
+-- at the end of the block, a label of its label part
+abbrev pub label_placed : Labels → Label → Outcome (Unit {0})
+label_placed labels l = unless (is_unplaced (place_in labels l.value)) rule.Label l.at.start (Ok tt)
+
+abbrev pub placed_in : List Labelled → Label → Outcome (Unit {0})
+placed_in [] l = Err (Broken rule.Label l.at.start)
+placed_in (s ∷ around) l = label_placed s.labels l
 
 -- a label before a statement
 abbrev pub placed_label : Labels → Label → Outcome ℕ

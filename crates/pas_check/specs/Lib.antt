@@ -1,4 +1,5 @@
 pub mod Block
+pub mod Blocks
 pub mod Constant
 pub mod Control
 pub mod Declarations
@@ -17,5 +18,5 @@ pub mod Sight
 pub mod Statement
 pub mod Statements
 pub mod TypeExpr
-pub mod Written
 pub mod Writes
+pub mod Written

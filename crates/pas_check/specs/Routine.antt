@@ -1,11 +1,11 @@
 -- The tests of a heading and of a block's end (ISO 7185, 6.6.1 and 6.6.2).
-use Rattle.std.specs.Prelude.{ℕ, Bool, Ok}
+use Rattle.std.specs.Prelude.{ℕ, Option, Some, None, Ok}
 use Rattle.px_base.specs.declared.place.Span.{Span}
 use Rattle.pas_tree.specs.declared.block.RoutineBody.TheOpen.{Routine-F}
 use Rattle.pas_check.specs.declared.fault.Rule.TheVariants as rule
-use Rattle.pas_check.specs.declared.routine.Head.{Head}
+use Rattle.pas_check.specs.declared.heading.Function.{Function}
 use Rattle.pas_check.specs.Outcome.{Outcome, ◌>>=◌, needed, unless}
-use Rattle.pas_check.specs.Rules.{is_never_assigned, is_too_deep, lacks_body, lacks_result_type, repeats_heading}
+use Rattle.pas_check.specs.Rules.{is_never_assigned, is_too_deep, lacks_result_type, repeats_heading}
 use Rattle.pas_check.specs.Sight.{Sight, host_at}
 use Rattle.pas_check.specs.TypeExpr.{named_type}
 
@@ -24,9 +24,7 @@ result_type v name = do
   host ← needed (host_at v t) rule.Type name.start
   Ok t
 
--- at the end of a function's block, and of the block around a heading
-abbrev pub result_assigned : Head → Bool → Outcome (Unit {0})
-result_assigned h assigned = unless (is_never_assigned h.result assigned) rule.Result h.name.start (Ok tt)
-
-abbrev pub body_given : Head → Outcome (Unit {0})
-body_given h = unless (lacks_body h.has_body) rule.Body h.name.start (Ok tt)
+-- at the end of a function's block
+abbrev pub result_assigned : Sight → Option Function → Outcome (Unit {0})
+result_assigned v None = Ok tt
+result_assigned v (Some f) = unless (is_never_assigned v.assigned f.head) rule.Result f.at (Ok tt)

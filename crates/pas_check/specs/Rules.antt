@@ -105,9 +105,9 @@ is_threat level looping x = nat_eq x.level level && looping x.at
 abbrev pub is_double : ℤ → List ℤ → Bool
 is_double constant before = list_any (λ z. int_eq constant z) before
 
--- ---- 13 (end), function without assignment to its name: its block nowhere assigns to its name
-abbrev pub is_never_assigned : Option Variable → Bool → Bool
-is_never_assigned result assigned = is_some result && not assigned
+-- ---- 13 (end), function without assignment to its name: its block, inner blocks included, nowhere assigns to its name
+abbrev pub is_never_assigned : (ℕ → Bool) → ℕ → Bool
+is_never_assigned assigned function = not (assigned function)
 
 -- ---- 14 (end of the block around), forward without body
 abbrev pub lacks_body : Bool → Bool

@@ -9,7 +9,7 @@ use Rattle.pas_program.specs.declared.type_def.TypeDef.TheVariants.{Scalar, Arra
 use Rattle.indexmap.specs.IndexMap.{get}
 use Rattle.pas_check.specs.declared.actual.Formal.{Formal}
 use Rattle.pas_check.specs.declared.meaning.Variable.{Variable}
-use Rattle.pas_check.specs.declared.routine.Head.{Head}
+use Rattle.pas_check.specs.declared.heading.Head.{Head}
 use Rattle.pas_check.specs.declared.scope.Declaration.{Declaration}
 use Rattle.pas_check.specs.declared.scope.Scope.{Scope}
 use Rattle.pas_check.specs.declared.seen.Seen.{Seen}
@@ -21,8 +21,6 @@ pub record Heading : Type 0 where
   pub formals : List Formal
   -- the variable for the result of a function
   pub result : Option Variable
-  -- whether the walk is inside its block
-  pub inside : Bool
 
 pub record Sight : Type 0 where
   pub text : List ℕ
@@ -41,9 +39,11 @@ pub record Sight : Type 0 where
   pub looping : ℕ → Bool
   -- the variables that a routine inside their own threatens, by these places too, of the routines whose blocks have ended
   pub threatened : ℕ → Bool
+  -- the functions whose names are assigned to, by their headings, in the statement parts that have ended
+  pub assigned : ℕ → Bool
 
 abbrev pub heading_of : Head → Heading
-heading_of h = record { formals = h.formals.items; result = h.result; inside = h.inside }
+heading_of h = record { formals = h.formals.items; result = h.result }
 
 abbrev pub names_around : List Scope → List Names
 names_around scopes = map (λ (s : Scope). s.names) (reverse scopes)
@@ -63,6 +63,7 @@ sight c = record {
   asserting = c.asserting;
   looping = has c.looping;
   threatened = has c.threatened;
+  assigned = has c.assigned;
 }
 
 -- what the name at a span denotes

@@ -1,5 +1,9 @@
-ghost use Rattle.std.specs.Prelude.{IfErr, IfOk, length};
+ghost use Rattle.std.specs.Prelude.{◌≡◌, [], IfErr, IfOk, length, map};
+ghost use Rattle.pas_check.specs.Blocks.{HasNone, IsAtFirst, IsSound, IsSoundFault, all_ended, required};
 ghost use Rattle.pas_check.specs.Fault.{IsWithin};
+ghost use Rattle.pas_check.specs.Labels.{labelled};
+ghost use Rattle.pas_check.specs.Outcome.{IsMemory};
+ghost use Rattle.pas_check.specs.Sight.{sight};
 ghost use Rattle.pas_program.specs.Checked.{tables};
 ghost use Rattle.pas_program.specs.Labels.{AssertsStand, ConstantsDiffer, ControlsAreLocal, LabelsStand};
 
@@ -16,7 +20,6 @@ use pas_tree::Tree;
 use pas_valid::program_of;
 use sqlite_items::Items;
 use std::alloc::{AllocError, Global};
-use std::mem;
 
 /// The walk: what its tests see, and what it makes.
 #[derive(Drop)]
@@ -32,6 +35,7 @@ pub struct Checker<'t> {
 /// The first test that fails in the order of the text; at one place the lower code.
 pub fn check(alloc: Global, text: &[u8], tree: &Tree) -> Result<Program, CheckFault>
     ensures fault { IfErr result (λ e. IsWithin (length text.now) e) }
+    ensures sound { IfErr result (λ e. IsSound text.now tree.now e) }
     ensures controls { IfOk result (λ p. ControlsAreLocal (tables p) p.routines) }
     ensures labels { IfOk result (λ p. LabelsStand p.routines) }
     ensures constants { IfOk result (λ p. ConstantsDiffer p.routines) }
@@ -44,6 +48,7 @@ pub fn check(alloc: Global, text: &[u8], tree: &Tree) -> Result<Program, CheckFa
 }
 
 fn checked(alloc: Global, text: &[u8], tree: &Tree) -> Result<Program, Fault>
+    ensures sound { IfErr result (λ e. IsSoundFault text.now tree.now e) }
     ensures controls { IfOk result (λ p. ControlsAreLocal (tables p) p.routines) }
     ensures labels { IfOk result (λ p. LabelsStand p.routines) }
     ensures constants { IfOk result (λ p. ConstantsDiffer p.routines) }
@@ -55,7 +60,10 @@ fn checked(alloc: Global, text: &[u8], tree: &Tree) -> Result<Program, Fault>
 }
 
 impl<'t> Checker<'t> {
-    fn new(alloc: Global, text: &'t [u8], tree: &Tree) -> Result<Checker<'t>, Fault> {
+    fn new(alloc: Global, text: &'t [u8], tree: &Tree) -> Result<Checker<'t>, Fault>
+        ensures first { IfOk result (λ c. IsAtFirst text.now (sight c.seen)) }
+        ensures memory { IfErr result IsMemory }
+    {
         let number = count_bodies(&tree.block);
         let frame = Frame::new(alloc, tree.name, number, None, 0, Items::new(alloc), None);
         let mut checker = Checker {
@@ -69,6 +77,7 @@ impl<'t> Checker<'t> {
                 asserting: false,
                 looping: IndexMap::new(alloc),
                 threatened: IndexMap::new(alloc),
+                assigned: IndexMap::new(alloc),
             },
             made: Made {
                 vars: Items::new(alloc),
@@ -80,12 +89,13 @@ impl<'t> Checker<'t> {
                 lower: Vec::new(alloc),
             },
         };
-        let required = required(alloc, number).map_err(Fault::Memory)?;
-        checker.push_scope(required)?;
+        let outermost = outermost(alloc, number).map_err(Fault::Memory)?;
+        checker.push_scope(outermost)?;
         Ok(checker)
     }
 
     fn into_program(self) -> Result<Program, Fault>
+        ensures memory { IfErr result IsMemory }
         ensures controls { IfOk result (λ p. ControlsAreLocal (tables p) p.routines) }
         ensures labels { IfOk result (λ p. LabelsStand p.routines) }
         ensures constants { IfOk result (λ p. ConstantsDiffer p.routines) }
@@ -103,17 +113,12 @@ impl<'t> Checker<'t> {
         let made = program_of(alloc, types, vars, routines, asserts).map_err(Fault::Memory)?;
         made.ok_or(Fault::Memory(AllocError))
     }
-
-    /// Goes into the block of another routine, and answers the frame of the one that was at hand.
-    pub fn exchange_frame(&mut self, frame: Frame) -> Frame {
-        self.seen.level = frame.level;
-        mem::replace(&mut self.made.frame, frame)
-    }
 }
 
-/// The block above the program's: what every program may use.
-fn required(alloc: Global, routine: u32) -> Result<Scope, AllocError> {
-    let mut scope = Scope::new(alloc, routine);
+/// What every program may use, with what it stands for (ISO 7185, 6.4.2.2, 6.6.5 and 6.6.6).
+fn required_names() -> [(&'static str, Meaning); 15]
+    ensures { map (λ n. (n.0.now, n.1)) result ≡ required }
+{
     let truth = |value: i32| {
         Meaning::Constant(Value {
             boolean: true,
@@ -124,44 +129,33 @@ fn required(alloc: Global, routine: u32) -> Result<Scope, AllocError> {
         boolean: false,
         value: i32::MAX,
     };
-    require(alloc, &mut scope, "integer", Meaning::Type(INTEGER))?;
-    require(alloc, &mut scope, "boolean", Meaning::Type(BOOLEAN))?;
-    require(alloc, &mut scope, "maxint", Meaning::Constant(maxint))?;
-    require(alloc, &mut scope, "true", truth(1))?;
-    require(alloc, &mut scope, "false", truth(0))?;
-    require(alloc, &mut scope, "abs", Meaning::Required(Required::Abs))?;
-    require(alloc, &mut scope, "sqr", Meaning::Required(Required::Sqr))?;
-    require(alloc, &mut scope, "odd", Meaning::Required(Required::Odd))?;
-    require(alloc, &mut scope, "succ", Meaning::Required(Required::Succ))?;
-    require(alloc, &mut scope, "pred", Meaning::Required(Required::Pred))?;
-    require(alloc, &mut scope, "ord", Meaning::Required(Required::Ord))?;
-    require(alloc, &mut scope, "read", Meaning::Transput(Transput::Read))?;
-    require(
-        alloc,
-        &mut scope,
-        "readln",
-        Meaning::Transput(Transput::Readln),
-    )?;
-    require(
-        alloc,
-        &mut scope,
-        "write",
-        Meaning::Transput(Transput::Write),
-    )?;
-    require(
-        alloc,
-        &mut scope,
-        "writeln",
-        Meaning::Transput(Transput::Writeln),
-    )?;
-    Ok(scope)
+    [
+        ("integer", Meaning::Type(INTEGER)),
+        ("boolean", Meaning::Type(BOOLEAN)),
+        ("maxint", Meaning::Constant(maxint)),
+        ("true", truth(1)),
+        ("false", truth(0)),
+        ("abs", Meaning::Required(Required::Abs)),
+        ("sqr", Meaning::Required(Required::Sqr)),
+        ("odd", Meaning::Required(Required::Odd)),
+        ("succ", Meaning::Required(Required::Succ)),
+        ("pred", Meaning::Required(Required::Pred)),
+        ("ord", Meaning::Required(Required::Ord)),
+        ("read", Meaning::Transput(Transput::Read)),
+        ("readln", Meaning::Transput(Transput::Readln)),
+        ("write", Meaning::Transput(Transput::Write)),
+        ("writeln", Meaning::Transput(Transput::Writeln)),
+    ]
 }
 
-fn require(
-    alloc: Global,
-    scope: &mut Scope,
-    name: &str,
-    meaning: Meaning,
-) -> Result<(), AllocError> {
-    scope.names.end(alloc, name.as_bytes(), 0, meaning)
+/// The block above the program's: what every program may use.
+fn outermost(alloc: Global, routine: u32) -> Result<Scope, AllocError>
+    ensures names { IfOk result (λ s. s.names ≡ all_ended required []) }
+    ensures none { IfOk result (λ s. HasNone (labelled s)) }
+{
+    let mut scope = Scope::new(alloc, routine);
+    for (name, meaning) in required_names() {
+        scope.names.end(alloc, name.as_bytes(), 0, meaning)?;
+    }
+    Ok(scope)
 }

@@ -3,6 +3,7 @@
 ghost use Rattle.std.specs.Prelude.{◌≡◌, false, OnOk};
 ghost use Rattle.pas_program.specs.Tables.{is_kind};
 ghost use Rattle.pas_program.specs.declared.variable.VarKind.TheVariants as kind;
+ghost use Rattle.pas_check.specs.Blocks.{written_in};
 ghost use Rattle.pas_check.specs.Control as spec;
 ghost use Rattle.pas_check.specs.Control.{all_threatened, threatens};
 ghost use Rattle.pas_check.specs.Expr.{found};
@@ -129,6 +130,24 @@ impl<'t> Seen<'t> {
         Ok(())
     }
 
+    /// Takes note that the name of the function with a heading is assigned to.
+    #[tactic(auto, unfolding(crate::specs::Sight::sight))]
+    fn assigned_to(&mut self, head: usize) -> Result<(), AllocError>
+        ensures assigned { OnOk result (sight self.new ≡ spec.assigned_to (sight self.old) head) }
+    {
+        self.assigned.insert(head, ())?;
+        Ok(())
+    }
+
+    fn all_assigned(&mut self, heads: &[usize]) -> Result<(), AllocError>
+        ensures assigned { OnOk result (sight self.new ≡ spec.all_assigned (sight self.old) heads.now) }
+    {
+        for head in heads {
+            self.assigned_to(*head)?;
+        }
+        Ok(())
+    }
+
     /// Takes note that it ends.
     #[tactic(auto, unfolding(crate::specs::Sight::sight))]
     fn leave_loop(&mut self, at: u32)
@@ -180,12 +199,12 @@ impl<'t> Checker<'t> {
         })
     }
 
-    /// Takes note of what the routine at hand threatens, when its block ends.
-    pub fn note_threats(&mut self) -> Result<(), AllocError>
-        ensures threatened { OnOk result (sight self.new.seen ≡ all_threatened (sight self.old.seen) self.old.made.threats.items) }
+    /// Takes note of what the statement part at hand writes, when it ends.
+    #[tactic(auto, unfolding(crate::specs::Written::written))]
+    pub fn note_written(&mut self) -> Result<(), AllocError>
+        ensures noted { OnOk result (sight self.new.seen ≡ written_in (sight self.old.seen) (written self.old.made)) }
     {
         self.seen.all_threatened(self.made.threats.as_slice())?;
-        self.made.threats.clear();
-        Ok(())
+        self.seen.all_assigned(self.made.assigned.as_slice())
     }
 }

@@ -1,5 +1,5 @@
 ghost use Rattle.std.specs.Prelude.{◌≡◌, ◌≤◌};
-ghost use Rattle.pas_check.specs.Fault.{IsWithin};
+ghost use Rattle.pas_check.specs.Fault.{IsTold, IsWithin};
 ghost use Rattle.pas_check.specs.Rules.{code_of};
 
 use std::alloc::AllocError;
@@ -25,7 +25,8 @@ pub enum Fault {
 impl Fault {
     /// The fault as it is told, at a place within a text of this length.
     pub fn told(self, length: usize) -> CheckFault
-        ensures { IsWithin length result }
+        ensures within { IsWithin length result }
+        ensures told { IsTold length self result }
     {
         match self {
             Fault::Memory(error) => CheckFault::Memory(error),

@@ -27,7 +27,9 @@ impl Frame {
         level: u32,
         formals: Items<u32>,
         returned: Option<u32>,
-    ) -> Frame {
+    ) -> Frame
+        ensures { result.level ≡ level }
+    {
         Frame {
             name,
             routine,

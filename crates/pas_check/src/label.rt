@@ -2,25 +2,25 @@
 
 ghost use Rattle.std.specs.Prelude.{◌≡◌, [], ◌∷◌, ℕ, Bool, IfOk, List, None, OnOk, Some, map, nat_eq, reverse, true};
 ghost use Rattle.std.specs.Option.{option_map};
-ghost use Rattle.indexmap.specs.IndexMap.{Updates, get};
+ghost use Rattle.indexmap.specs.IndexMap.{get, keys};
 ghost use Rattle.pas_tree.specs.declared.statement.Statement.{Statement};
 ghost use Rattle.pas_check.specs.declared.label.LabelDecl.{LabelDecl};
 ghost use Rattle.pas_check.specs.Labels as spec;
-ghost use Rattle.pas_check.specs.Labels.{label_before, labelled};
-ghost use Rattle.pas_check.specs.Outcome.{Gives};
+ghost use Rattle.pas_check.specs.Blocks.{LabelsMay};
+ghost use Rattle.pas_check.specs.Labels.{declaration_of, label_before, labelled, labels_declared, placed_in};
+ghost use Rattle.pas_check.specs.Outcome.{Gives, Meets, each};
 ghost use Rattle.pas_check.specs.Placing as placing;
 ghost use Rattle.pas_check.specs.Placing.{Branches, IsPlacedRightly, Members, Notes, Nothing, PlacesRise, arm_of, below, content, content_of, end_of, in_order, label_mark, last_place, marks, marks_inside, member_marks, or_nothing, outline, outline_of, sequence_marks};
 ghost use Rattle.pas_check.specs.Sight.{sight};
 
-use crate::checker::Checker;
 use crate::fault::{Fault, Rule};
 use crate::scope::{Scope, innermost};
 use crate::seen::Seen;
 use indexmap::IndexMap;
 use pas_program::Body;
-use pas_tree::{Label, Statement};
+use pas_tree::{Block, Label, Statement};
 use sqlite_items::Boxed;
-use std::alloc::AllocError;
+use std::alloc::{AllocError, Global};
 
 /// The greatest label.
 const MOST_LABEL: u32 = 9999;
@@ -250,28 +250,51 @@ pub fn places_say_the_same_as_paths()
         → IsPlacedRightly (outline body) value placed.placed }
 {}
 
-impl Scope {
-    /// Declares a label of the block's label part.
-    pub fn declare_label(&mut self, label: Label) -> Result<(), Fault>
-        ensures value { Gives (λ u. u) (spec.declared_label self.old.labels label) result }
-        ensures added { OnOk result (Updates nat_eq self.old.labels self.new.labels label.value (Some (record { at = label.at.start; placed = None }))) }
-    {
-        if self.labels.contains_key(&label.value) {
-            return Err(Rule::DeclaredOnce.broken(label.at.start));
-        }
-        if label.value > MOST_LABEL {
-            return Err(Rule::LabelValue.broken(label.at.start));
-        }
-        let declared = LabelDecl {
-            at: label.at.start,
-            placed: None,
-        };
-        match self.labels.insert(label.value, declared) {
-            Ok(_) => Ok(()),
-            Err(_) => Err(Fault::Memory(AllocError)),
-        }
+/// Declares a label of a label part.
+fn declare_label(labels: &mut IndexMap<u32, LabelDecl>, label: Label) -> Result<(), Fault>
+    ensures value { Gives (λ u. keys labels.new) (spec.label_declared (keys labels.old) label) result }
+    ensures added { (n : ℕ) → OnOk result (get nat_eq labels.new n ≡ declaration_of n (label ∷ []) (get nat_eq labels.old n)) }
+{
+    if labels.contains_key(&label.value) {
+        return Err(Rule::DeclaredOnce.broken(label.at.start));
     }
+    if label.value > MOST_LABEL {
+        return Err(Rule::LabelValue.broken(label.at.start));
+    }
+    let declared = LabelDecl {
+        at: label.at.start,
+        placed: None,
+    };
+    match labels.insert(label.value, declared) {
+        Ok(_) => Ok(()),
+        Err(_) => Err(Fault::Memory(AllocError)),
+    }
+}
 
+/// Declares the labels of a label part.
+fn declare_labels(labels: &mut IndexMap<u32, LabelDecl>, label_part: &[Label]) -> Result<(), Fault>
+    ensures value { Gives (λ u. keys labels.new) (labels_declared (keys labels.old) label_part.now) result }
+    ensures added { (n : ℕ) → OnOk result (get nat_eq labels.new n ≡ declaration_of n label_part.now (get nat_eq labels.old n)) }
+{
+    for label in label_part {
+        declare_label(labels, *label)?;
+    }
+    Ok(())
+}
+
+/// The labels of a block by their values, with the statements that have them.
+pub fn labels_of(alloc: Global, block: &Block) -> Result<IndexMap<u32, LabelDecl>, Fault>
+    ensures value { Meets (λ labels. labels) (LabelsMay block.now) result }
+{
+    let mut labels = IndexMap::new(alloc);
+    declare_labels(&mut labels, block.labels.as_slice())?;
+    if !labels.is_empty() {
+        let _ = place_sequence(&mut labels, block.body.as_slice(), true).map_err(Fault::Memory)?;
+    }
+    Ok(labels)
+}
+
+impl Scope {
     /// Tests a label at a statement of the block: the block declares it, and no statement before has it.
     fn placed_label(&self, label: Label) -> Result<u32, Fault>
         ensures value { Gives (λ n. n) (spec.placed_label self.now.labels label) result }
@@ -338,6 +361,30 @@ fn left_for(scopes: &[Scope], label: Label, at: u32, inner: bool) -> Result<u32,
 }
 
 impl<'t> Seen<'t> {
+    /// At the end of a block, each of its labels stands at a statement.
+    pub fn labels_placed(&self, labels: &[Label]) -> Result<(), Fault>
+        ensures value { Gives (λ u. u) (each (placed_in (sight self.now).labels) labels.now) result }
+    {
+        for label in labels {
+            self.label_placed(*label)?;
+        }
+        Ok(())
+    }
+
+    #[tactic(auto, unfolding(crate::specs::Sight::sight))]
+    fn label_placed(&self, label: Label) -> Result<(), Fault>
+        ensures value { Gives (λ u. u) (placed_in (sight self.now).labels label) result }
+    {
+        let placed = match innermost(self.scopes.as_slice()) {
+            Some(scope) => scope.place_of(label.value),
+            None => None,
+        };
+        match placed {
+            Some(_) => Ok(()),
+            None => Err(Rule::Label.broken(label.at.start)),
+        }
+    }
+
     /// The label of a statement, if it has one.
     pub fn label_before(&self, label: Option<Label>) -> Result<Option<u32>, Fault>
         ensures value { Gives (λ n. tt) (label_before (sight self.now).labels label) result }
@@ -370,18 +417,5 @@ impl<'t> Seen<'t> {
             routine,
             label: label.value,
         })
-    }
-}
-
-impl<'t> Checker<'t> {
-    /// The label part of a block.
-    pub fn label_part(&mut self, labels: &[Label]) -> Result<(), Fault> {
-        for label in labels {
-            let Some(scope) = self.seen.scopes.last_mut() else {
-                return Ok(());
-            };
-            scope.declare_label(*label)?;
-        }
-        Ok(())
     }
 }

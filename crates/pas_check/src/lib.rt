@@ -15,6 +15,7 @@ mod control;
 mod expr;
 mod fault;
 mod frame;
+mod heading;
 mod label;
 mod meaning;
 mod names;
@@ -26,6 +27,7 @@ mod statement;
 mod transput;
 mod type_expr;
 mod types;
+mod waiting;
 
 pub use checker::check;
 pub use fault::CheckFault;

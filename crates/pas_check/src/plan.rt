@@ -1,11 +1,11 @@
 //! What a block declares, before its walk begins.
 
-ghost use Rattle.std.specs.Prelude.{◌≡◌, IfErr, OnOk, flat_map, map};
+ghost use Rattle.std.specs.Prelude.{◌≡◌, IfErr, IfOk, OnOk, flat_map, map, reverse};
 ghost use Rattle.pas_check.specs.Block.{const_name, names_in, routine_name, section_names, type_name, var_names};
+ghost use Rattle.pas_check.specs.Blocks.{bodies_given, lacking_by, later_of, planned};
 ghost use Rattle.pas_check.specs.Names.{name_at, noted, noted_all};
 ghost use Rattle.pas_check.specs.Outcome.{IsMemory};
 
-use crate::checker::Checker;
 use crate::fault::Fault;
 use crate::scope::Scope;
 use crate::seen::{Made, Seen};
@@ -14,15 +14,71 @@ use pas_tree::{Block, ConstDecl, Routine, RoutineBody, Section, TypeDecl, VarDec
 use px_base::Span;
 use std::alloc::{AllocError, Global};
 
-/// A heading of a block, and what it goes with.
-#[derive(Clone, Copy, Debug, PartialEq, Eq)]
-pub struct Plan {
+/// A heading of a block.
+#[derive(Clone, Copy, Debug)]
+pub struct Plan<'b> {
     /// The number of the routine.
     pub number: u32,
-    /// For a `forward` heading, which heading of the block has its body.
-    pub body: Option<usize>,
-    /// For the heading of such a body, which heading is the `forward` one.
-    pub forward: Option<usize>,
+    /// The block that a heading without one waits for.
+    pub later: Option<&'b Block>,
+}
+
+/// The headings of a block, before they are walked.
+#[derive(Drop)]
+pub struct Plans<'b> {
+    /// From the last to the first.
+    pub list: Vec<Plan<'b>>,
+    /// The first `forward` heading without a body, by the place of its name.
+    pub lacking: Option<u32>,
+}
+
+/// The first headings with blocks among those that were read, by their names in lower case.
+#[derive(Drop)]
+struct Bodies<'b> {
+    procedures: IndexMap<Vec<u8>, Body<'b>>,
+    functions: IndexMap<Vec<u8>, Body<'b>>,
+}
+
+/// A block, and the number of its routine.
+#[derive(Clone, Copy, Debug)]
+struct Body<'b> {
+    number: u32,
+    block: &'b Block,
+}
+
+impl<'b> Bodies<'b> {
+    fn new(alloc: Global) -> Bodies<'b> {
+        Bodies {
+            procedures: IndexMap::new(alloc),
+            functions: IndexMap::new(alloc),
+        }
+    }
+
+    fn get(&self, name: &[u8], function: bool) -> Option<Body<'b>> {
+        let bodies = if function {
+            &self.functions
+        } else {
+            &self.procedures
+        };
+        bodies.get(name).copied()
+    }
+
+    fn set(
+        &mut self,
+        alloc: Global,
+        name: &[u8],
+        function: bool,
+        body: Body<'b>,
+    ) -> Result<(), AllocError> {
+        let key = Vec::from_slice(alloc, name)?;
+        let bodies = if function {
+            &mut self.functions
+        } else {
+            &mut self.procedures
+        };
+        bodies.insert(key, body)?;
+        Ok(())
+    }
 }
 
 /// How many routines have their statement parts inside a block, without the block's own.
@@ -43,53 +99,94 @@ fn count_routine(routine: &Routine) -> u32 {
     }
 }
 
-fn push(plans: &mut Vec<Plan>, plan: Plan) -> Result<(), AllocError> {
-    plans.push(plan)?;
+fn push(numbers: &mut Vec<u32>, number: u32) -> Result<(), AllocError> {
+    numbers.push(number)?;
     Ok(())
 }
 
-fn open(
-    alloc: Global,
-    forwards: &mut IndexMap<Vec<u8>, usize>,
-    name: &[u8],
-    heading: usize,
-) -> Result<(), AllocError> {
-    if !forwards.contains_key(name) {
-        forwards.insert(Vec::from_slice(alloc, name)?, heading)?;
-    }
-    Ok(())
-}
-
-impl<'t> Checker<'t> {
-    /// Which number each heading of a block has, and which of them go together.
-    pub fn plans(&mut self, routines: &[Routine]) -> Result<Vec<Plan>, Fault> {
-        let mut plans = Vec::new(self.seen.alloc);
-        let mut forwards: IndexMap<Vec<u8>, usize> = IndexMap::new(self.seen.alloc);
-        let mut next = u32::try_from(self.made.routines.len()).unwrap_or(u32::MAX);
-        for (heading, routine) in routines.iter().enumerate() {
-            self.made.spell(self.seen.text, routine.name)?;
-            let name = self.made.lower.as_slice();
-            let mut plan = Plan {
-                number: next,
-                body: None,
-                forward: None,
-            };
-            match &routine.body {
-                RoutineBody::Word(_) => {
-                    open(self.seen.alloc, &mut forwards, name, heading).map_err(Fault::Memory)?;
-                }
-                RoutineBody::Block(block) => {
-                    plan.number = next.saturating_add(count_bodies(block));
-                    next = plan.number.saturating_add(1);
-                    plan.forward = forward_of(&mut forwards, routines, name, routine.function);
-                    if let Some(forward) = plan.forward {
-                        link(plans.as_mut_slice(), forward, heading, plan.number);
-                    }
-                }
+/// The numbers of routines with blocks: each has the next one after those inside it. A heading without a block has any.
+fn numbers(alloc: Global, first: u32, routines: &[Routine]) -> Result<Vec<u32>, AllocError> {
+    let mut numbers = Vec::new(alloc);
+    let mut next = first;
+    for routine in routines {
+        match &routine.body {
+            RoutineBody::Word(_) => push(&mut numbers, next)?,
+            RoutineBody::Block(block) => {
+                let number = next.saturating_add(count_bodies(block));
+                push(&mut numbers, number)?;
+                next = number.saturating_add(1);
             }
-            push(&mut plans, plan).map_err(Fault::Memory)?;
+        }
+    }
+    Ok(numbers)
+}
+
+impl<'b> Plans<'b> {
+    fn push(&mut self, plan: Plan<'b>) -> Result<(), AllocError> {
+        self.list.push(plan)?;
+        Ok(())
+    }
+}
+
+impl<'t> Seen<'t> {
+    /// The numbers of the headings of a block, and which of them go together.
+    pub fn plans<'b>(&self, made: &mut Made, routines: &'b [Routine]) -> Result<Plans<'b>, Fault>
+        ensures later { IfOk result (λ plans. map later_of (reverse plans.list.items) ≡ map (λ p. p.1) (planned self.now.text.now routines.now)) }
+        ensures lacking { IfOk result (λ plans. lacking_by plans.lacking ≡ bodies_given self.now.text.now routines.now) }
+        ensures memory { IfErr result IsMemory }
+    {
+        let first = u32::try_from(made.routines.len()).unwrap_or(u32::MAX);
+        let mut numbers = numbers(self.alloc, first, routines).map_err(Fault::Memory)?;
+        let mut bodies = Bodies::new(self.alloc);
+        let mut plans = Plans {
+            list: Vec::new(self.alloc),
+            lacking: None,
+        };
+        let mut rest = routines;
+        while let Some((routine, before)) = rest.split_last() {
+            let number = numbers.pop().unwrap_or(first);
+            self.plan(made, routine, number, &mut bodies, &mut plans)?;
+            rest = before;
         }
         Ok(plans)
+    }
+
+    /// The plan of a heading, before those of the headings after it.
+    fn plan<'b>(
+        &self,
+        made: &mut Made,
+        routine: &'b Routine,
+        number: u32,
+        bodies: &mut Bodies<'b>,
+        plans: &mut Plans<'b>,
+    ) -> Result<(), Fault> {
+        made.spell(self.text, routine.name)?;
+        let name = made.lower.as_slice();
+        let plan = match &routine.body {
+            RoutineBody::Block(block) => {
+                bodies
+                    .set(self.alloc, name, routine.function, Body { number, block })
+                    .map_err(Fault::Memory)?;
+                Plan {
+                    number,
+                    later: None,
+                }
+            }
+            RoutineBody::Word(_) => match bodies.get(name, routine.function) {
+                Some(body) => Plan {
+                    number: body.number,
+                    later: Some(body.block),
+                },
+                None => {
+                    plans.lacking = Some(routine.name.start);
+                    Plan {
+                        number,
+                        later: None,
+                    }
+                }
+            },
+        };
+        plans.push(plan).map_err(Fault::Memory)
     }
 }
 
@@ -200,27 +297,5 @@ impl<'t> Seen<'t> {
             Ok(()) => Ok(()),
             Err(error) => Err(Fault::Memory(error)),
         }
-    }
-}
-
-/// The `forward` heading that a body with this name and word belongs to, which has no body so far.
-fn forward_of(
-    forwards: &mut IndexMap<Vec<u8>, usize>,
-    routines: &[Routine],
-    name: &[u8],
-    function: bool,
-) -> Option<usize> {
-    let forward = forwards.get(name).copied()?;
-    if routines.get(forward)?.function != function {
-        return None;
-    }
-    forwards.swap_remove(name)
-}
-
-/// Gives a `forward` heading its body and that body's number.
-fn link(plans: &mut [Plan], forward: usize, body: usize, number: u32) {
-    if let Some(plan) = plans.get_mut(forward) {
-        plan.body = Some(body);
-        plan.number = number;
     }
 }

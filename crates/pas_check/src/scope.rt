@@ -1,6 +1,8 @@
-ghost use Rattle.std.specs.Prelude.{◌≡◌, [], OnErr, OnOk, Some, map, reverse};
+ghost use Rattle.std.specs.Prelude.{◌≡◌, [], OnErr, OnOk, Some, map, nat_eq, reverse};
 ghost use Rattle.std.specs.Option.{option_copied};
+ghost use Rattle.pas_program.specs.Tables.{holds_of};
 ghost use Rattle.pas_check.specs.Declarations.{in_innermost};
+ghost use Rattle.pas_check.specs.Expr as expr;
 ghost use Rattle.pas_check.specs.Labels.{first_scope, labelled};
 ghost use Rattle.pas_check.specs.Names as spec;
 ghost use Rattle.pas_check.specs.Names.{ended, found_in, noted, with_meaning};
@@ -101,11 +103,11 @@ impl Names {
 pub struct Scope {
     /// The number of the block's routine.
     pub routine: u32,
+    /// The function whose block it is, by its heading.
+    pub function: Option<usize>,
     pub names: Names,
     /// The labels by their values.
     pub labels: IndexMap<u32, LabelDecl>,
-    /// The `forward` headings, by their places among the headings.
-    pub forwards: Vec<usize>,
 }
 
 impl Scope {
@@ -114,15 +116,20 @@ impl Scope {
     {
         Scope {
             routine,
+            function: None,
             names: Names::new(alloc),
             labels: IndexMap::new(alloc),
-            forwards: Vec::new(alloc),
         }
     }
 
-    pub fn add_forward(&mut self, head: usize) -> Result<(), AllocError> {
-        self.forwards.push(head)?;
-        Ok(())
+    /// Whether it is the block of the function with this heading.
+    fn is_of(&self, head: usize) -> bool
+        ensures { result ≡ holds_of (λ own. nat_eq own head) self.now.function }
+    {
+        match self.function {
+            Some(own) => own == head,
+            None => false,
+        }
     }
 }
 
@@ -147,6 +154,16 @@ pub fn innermost(scopes: &[Scope]) -> Option<&Scope>
     }
 }
 
+/// Whether one of these blocks is that of the function with a heading; the innermost stands last.
+pub fn is_inside(scopes: &[Scope], head: usize) -> bool
+    ensures { result ≡ expr.is_inside (map labelled (reverse scopes.now)) head }
+{
+    match scopes.split_last() {
+        Some((innermost, around)) => innermost.is_of(head) || is_inside(around, head),
+        None => false,
+    }
+}
+
 /// Gives a name its meaning in the innermost of these blocks, which stands last.
 pub fn end_innermost(
     alloc: Global,
@@ -163,16 +180,16 @@ pub fn end_innermost(
     };
     let Scope {
         routine,
+        function,
         mut names,
         labels,
-        forwards,
     } = scope;
     names.end(alloc, name, at, meaning)?;
     scopes.push(Scope {
         routine,
+        function,
         names,
         labels,
-        forwards,
     })?;
     Ok(())
 }

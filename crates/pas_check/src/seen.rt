@@ -1,19 +1,21 @@
 //! What the tests see where the walk stands, and what is made on the way.
 
 ghost use Rattle.std.specs.Prelude.{◌≡◌, IfErr, OnOk};
+ghost use Rattle.pas_check.specs.Blocks.{nothing_written};
 ghost use Rattle.pas_check.specs.Declarations.{defined};
 ghost use Rattle.pas_check.specs.Expr.{claimed, meant};
 ghost use Rattle.pas_check.specs.Names as spec;
 ghost use Rattle.pas_check.specs.Outcome.{Gives, IsMemory};
+ghost use Rattle.pas_check.specs.Routine as allowed;
 ghost use Rattle.pas_check.specs.Rules as rules;
 ghost use Rattle.pas_check.specs.Sight.{innermost, parts_at, sight};
 ghost use Rattle.pas_check.specs.Written.{written};
 
 use crate::fault::{Fault, Rule};
 use crate::frame::Frame;
+use crate::heading::{Function, Head};
 use crate::meaning::Meaning;
 use crate::names::{lower_case, spelling};
-use crate::routine::Head;
 use crate::scope::{Scope, denoted, end_innermost, innermost};
 use crate::types::Types;
 use indexmap::IndexMap;
@@ -38,8 +40,10 @@ pub struct Seen<'t> {
     pub asserting: bool,
     /// The control variables of the `for` statements around, by their places.
     pub looping: IndexMap<u32, ()>,
-    /// The variables that a routine inside their own threatens, by their places, of the routines whose blocks have ended.
+    /// The variables that a routine inside their own threatens, by their places, of the statement parts that have ended.
     pub threatened: IndexMap<u32, ()>,
+    /// The functions whose names are assigned to, by their headings, in the statement parts that have ended.
+    pub assigned: IndexMap<usize, ()>,
 }
 
 /// What is made of the program so far.
@@ -50,7 +54,7 @@ pub struct Made {
     pub routines: Items<Routine>,
     pub asserts: Items<Assert>,
     pub frame: Frame,
-    /// The variables that the routine at hand threatens and that are not its own, by their places.
+    /// The variables that the statement part at hand threatens and that are not of its block, by their places.
     pub threats: Vec<u32>,
     /// The functions whose names the statement part at hand assigns to, by their headings.
     pub assigned: Vec<usize>,
@@ -71,6 +75,15 @@ impl Made {
             Ok(()) => Ok(()),
             Err(error) => Err(Fault::Memory(error)),
         }
+    }
+
+    /// A statement part begins, in which nothing is written so far.
+    #[tactic(auto, unfolding(crate::specs::Written::written))]
+    pub fn begin_statements(&mut self)
+        ensures { written self.new ≡ nothing_written }
+    {
+        self.threats.clear();
+        self.assigned.clear();
     }
 
     /// The number of a new variable of the routine at hand.
@@ -117,6 +130,23 @@ impl Made {
 }
 
 impl<'t> Seen<'t> {
+    /// At the end of a function's block, its name is assigned to.
+    #[tactic(auto, unfolding(crate::specs::Sight::sight))]
+    pub fn result_assigned(&self, function: Option<Function>) -> Result<(), Fault>
+        ensures value { Gives (λ u. u) (allowed.result_assigned (sight self.now) function) result }
+    {
+        match function {
+            Some(function) => {
+                if self.assigned.contains_key(&function.head) {
+                    Ok(())
+                } else {
+                    Err(Rule::Result.broken(function.at))
+                }
+            }
+            None => Ok(()),
+        }
+    }
+
     /// The bytes of a span.
     pub fn spelling(&self, span: Span) -> &'t [u8]
         ensures { result.now ≡ spec.spelling self.now.text.now span }

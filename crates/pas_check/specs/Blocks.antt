@@ -1,0 +1,297 @@
+-- Blocks and the routines in them (ISO 7185, 6.2 and 6.6), and what they may answer: what is seen after them, or the fault of
+-- the first rule that they break. Numbers of variables and of routines are any.
+use Rattle.std.specs.Prelude.{◌≡◌, ℕ, ◌≤◌, nat_eq, pos, ◌-ℤ◌, Bool, true, false, ◌&&◌, not, List, [], ◌∷◌, map, length, codes, is_some, Option, Some, None, Ok, Err, if◌then◌else◌}
+use Rattle.std.specs.Bool.{beq}
+use Rattle.std.specs.Option.{option_copied, option_map}
+use Rattle.std.specs.Str.{bytes_eq, str_to_ascii_lowercase}
+use Rattle.std.specs.declared.alloc.Global.{Global}
+use Rattle.std.specs.declared.vec.Vec.{Vec}
+use Rattle.indexmap.specs.IndexMap.{get}
+use Rattle.px_base.specs.declared.place.Span.{Span}
+use Rattle.pas_program.specs.declared.type_def.TypeDef.TheVariants.{Scalar}
+use Rattle.pas_program.specs.Types.{maxint}
+use Rattle.pas_tree.specs.declared.block.Block.{Block}
+use Rattle.pas_tree.specs.declared.block.Routine.{Routine}
+use Rattle.pas_tree.specs.declared.block.RoutineBody.TheOpen.{RoutineBody-F}
+use Rattle.pas_tree.specs.declared.block.RoutineBody.TheVariants as body_of
+use Rattle.pas_tree.specs.declared.block.RoutineBody.TheViews.{out-Block, out-Routine, out-RoutineBody}
+use Rattle.pas_tree.specs.declared.block.Tree.{Tree}
+use Rattle.pas_tree.specs.declared.statement.Statement.{Statement}
+use Rattle.pas_check.specs.declared.fault.CheckFault.{CheckFault}
+use Rattle.pas_check.specs.declared.fault.CheckFault.TheVariants as told
+use Rattle.pas_check.specs.declared.fault.Fault.{Fault}
+use Rattle.pas_check.specs.declared.fault.Fault.TheVariants.{Broken, Memory}
+use Rattle.pas_check.specs.declared.fault.Rule.{Rule}
+use Rattle.pas_check.specs.declared.fault.Rule.TheVariants as rule
+use Rattle.pas_check.specs.declared.heading.Function.{Function}
+use Rattle.pas_check.specs.declared.heading.Opened.{Opened}
+use Rattle.pas_check.specs.declared.meaning.Meaning.{Meaning}
+use Rattle.pas_check.specs.declared.meaning.Meaning.TheVariants as means
+use Rattle.pas_check.specs.declared.meaning.Required.TheVariants as function
+use Rattle.pas_check.specs.declared.meaning.Transput.TheVariants as transput
+use Rattle.pas_check.specs.declared.plan.Plan.{Plan}
+use Rattle.pas_check.specs.declared.waiting.Waiting.{Waiting}
+use Rattle.pas_check.specs.Block.{names_in}
+use Rattle.pas_check.specs.Control.{all_assigned, all_threatened}
+use Rattle.pas_check.specs.Declarations.{InTurn, VarMay, const_declared, led_by, type_declared}
+use Rattle.pas_check.specs.Headings.{HeadingMay, Opening, inside, opening_of, outside}
+use Rattle.pas_check.specs.Labels.{Labelled, Labels, declaration_of, labels_declared, placed_in}
+use Rattle.pas_check.specs.Names.{Name, Names, ended, name_at, noted_all, spelling}
+use Rattle.pas_check.specs.Outcome.{Outcome, ◌>>=◌, each, unless}
+use Rattle.pas_check.specs.Placing.{noted, sequence_marks}
+use Rattle.pas_check.specs.Routine.{repeated_heading, result_assigned}
+use Rattle.pas_check.specs.Rules.{code_of, lacks_body}
+use Rattle.pas_check.specs.Sight.{Sight}
+use Rattle.pas_check.specs.Statements.{in_turn, stated}
+use Rattle.pas_check.specs.Writes.{in_turn_writes, statement_writes}
+use Rattle.pas_check.specs.Written.{Written}
+
+-- ---- the parts before the routines
+
+-- the label part: what is kept of each label of it
+pub data LabelsMay (b : Block) : Outcome Labels → Type 0 where
+  in_label_part : {f : Fault} → labels_declared [] (out-Block b).labels ≡ Err f → LabelsMay b (Err f)
+  labels_kept : {values : List ℕ} {labels : Labels} → labels_declared [] (out-Block b).labels ≡ Ok values
+      → ((n : ℕ) → get nat_eq labels n ≡ noted n (sequence_marks (out-Block b).body true) (declaration_of n (out-Block b).labels None)) → LabelsMay b (Ok labels)
+
+-- constants, types and variables
+pub data PartsMay (v : Sight) (b : Block) : Outcome Sight → Type 0 where
+  in_consts : {f : Fault} → led_by const_declared v (out-Block b).consts ≡ Err f → PartsMay v b (Err f)
+  in_types : {u : Sight} {f : Fault} → led_by const_declared v (out-Block b).consts ≡ Ok u → led_by type_declared u (out-Block b).types ≡ Err f → PartsMay v b (Err f)
+  in_vars : {u w : Sight} {o : Outcome Sight} → led_by const_declared v (out-Block b).consts ≡ Ok u → led_by type_declared u (out-Block b).types ≡ Ok w → InTurn VarMay w (out-Block b).vars o → PartsMay v b o
+
+abbrev pub head_of : Function → ℕ
+head_of f = f.head
+
+-- the block of an opening, with what is kept of its labels
+abbrev pub own_block : Opening → ℕ → Labels → Labelled
+own_block p routine labels = record { routine = routine; function = option_map head_of p.result; labels = labels }
+
+abbrev pub entered : Sight → Opening → Labelled → Sight
+entered v p l = record (inside v p.names l) { level = p.level }
+
+-- the block of an opening, up to its routines
+pub data BeginsMay (v : Sight) (p : Opening) (b : Block) : Outcome Sight → Type 0 where
+  in_labels : {f : Fault} → LabelsMay b (Err f) → BeginsMay v p b (Err f)
+  in_parts : {labels : Labels} {o : Outcome Sight} (routine : ℕ) → LabelsMay b (Ok labels) → PartsMay (entered v p (own_block p routine labels)) b o → BeginsMay v p b o
+
+-- ---- headings and their blocks
+
+abbrev pub block_in : {A B C : Type 0} → RoutineBody-F A B C → Option B
+block_in (RoutineBody-F.Block b) = Some b
+block_in (RoutineBody-F.Word w) = None
+
+-- the block of a heading; a word, as `forward`, may stand in its place
+abbrev pub block_of : Routine → Option Block
+block_of r = block_in (out-RoutineBody (out-Routine r).body)
+
+-- whether a heading has a block, this name and this word
+abbrev pub is_body_of : List ℕ → Name → Bool → Routine → Bool
+is_body_of text name function r = is_some (block_of r) && (bytes_eq name (name_at text (out-Routine r).name) && beq function (out-Routine r).function)
+
+-- the block of a `forward` heading among those after it: the first with its name and its word
+abbrev pub later_block : List ℕ → Name → Bool → List Routine → Option Block
+later_block text name function [] = None
+later_block text name function (r ∷ rest) = if is_body_of text name function r then block_of r else later_block text name function rest
+
+abbrev pub body_after : List ℕ → Routine → List Routine → Option Block
+body_after text r rest = later_block text (name_at text (out-Routine r).name) (out-Routine r).function rest
+
+-- the block that a heading without one waits for
+abbrev pub awaited_block : List ℕ → Routine → List Routine → Option Block
+awaited_block text r rest = if is_some (block_of r) then None else body_after text r rest
+
+-- the headings of a block, each with the block that it waits for
+abbrev pub planned : List ℕ → List Routine → List (Routine × Option Block)
+planned text [] = []
+planned text (r ∷ rest) = (r, awaited_block text r rest) ∷ planned text rest
+
+-- at the end of the block around, each `forward` heading has its body
+abbrev pub body_given : List ℕ → Routine → List Routine → Outcome (Unit {0})
+body_given text r rest =
+    unless (not (is_some (block_of r)) && lacks_body (is_some (body_after text r rest))) rule.Body (out-Routine r).name.start (Ok tt)
+
+abbrev pub bodies_given : List ℕ → List Routine → Outcome (Unit {0})
+bodies_given text [] = Ok tt
+bodies_given text (r ∷ rest) = do
+  done ← body_given text r rest
+  bodies_given text rest
+
+-- what the code keeps of both
+abbrev pub later_of : Plan → Option Block
+later_of p = option_copied p.later
+
+abbrev pub lacking_by : Option ℕ → Outcome (Unit {0})
+lacking_by None = Ok tt
+lacking_by (Some at) = Err (Broken rule.Body at)
+
+-- ---- routines
+
+-- what is seen before and after routines of a block, and the `forward` headings that wait for their bodies, by their names
+pub record Standing : Type 0 where
+  pub seen : Sight
+  pub waiting : Name → Option Opening
+
+-- of several with a name, the first
+abbrev pub opening_for : Name → List (Vec ℕ Global × Opened) → Option Opening
+opening_for name [] = None
+opening_for name (e ∷ rest) = if bytes_eq name e.0.items then Some (opening_of e.1) else opening_for name rest
+
+abbrev pub waiting_of : Waiting → Name → Option Opening
+waiting_of w name = opening_for name w.opened.entries
+
+abbrev pub nothing_waits : Name → Option Opening
+nothing_waits name = None
+
+-- a heading waits, or waits no more
+abbrev pub waits : (Name → Option Opening) → Name → Option Opening → Name → Option Opening
+waits waiting name o other = if bytes_eq name other then o else waiting other
+
+-- one that waits for a body with this word
+abbrev pub with_word : Bool → Option Opening → Option Opening
+with_word function None = None
+with_word function (Some o) = if beq function o.function then Some o else None
+
+abbrev pub waits_for : Standing → Routine → Option Opening
+waits_for s r = with_word (out-Routine r).function (s.waiting (name_at s.seen.text (out-Routine r).name))
+
+-- the only word that may stand in the place of a block
+abbrev pub is_forward : List ℕ → Span → Bool
+is_forward text word = bytes_eq (str_to_ascii_lowercase (spelling text word)) (codes "forward")
+
+abbrev pub forwarded : Standing → Routine → Span → Sight × Opening → Outcome Standing
+forwarded s r word h =
+    unless (not (is_forward h.0.text word)) rule.Kind word.start
+    (Ok (record { seen = h.0; waiting = waits s.waiting (name_at h.0.text (out-Routine r).name) (Some h.1) }))
+
+-- a heading with a word in the place of its block, which waits for a later block
+pub data ForwardMay (s : Standing) (r : Routine) (word : Span) (later : Option Block) : Outcome Standing → Type 0 where
+  in_forward : {f : Fault} → HeadingMay s.seen r later (Err f) → ForwardMay s r word later (Err f)
+  headed_forward : {h : Sight × Opening} {o : Outcome Standing} → HeadingMay s.seen r later (Ok h) → forwarded s r word h ≡ o → ForwardMay s r word later o
+
+-- a heading with its block, up to the block: the body of one that waits, or a heading of its own
+pub data OpenMay (s : Standing) (r : Routine) (b : Block) : Outcome (Standing × Opening) → Type 0 where
+  awaited : {p : Opening} {o : Outcome (Standing × Opening)} → waits_for s r ≡ Some p
+      → (do done ← repeated_heading (out-Routine r); Ok (record s { waiting = waits s.waiting (name_at s.seen.text (out-Routine r).name) None }, p)) ≡ o → OpenMay s r b o
+  in_heading : {f : Fault} → waits_for s r ≡ None → HeadingMay s.seen r (Some b) (Err f) → OpenMay s r b (Err f)
+  opened : {h : Sight × Opening} → waits_for s r ≡ None → HeadingMay s.seen r (Some b) (Ok h) → OpenMay s r b (Ok (record s { seen = h.0 }, h.1))
+
+-- ---- blocks
+
+-- a statement part has ended that writes
+abbrev pub written_in : Sight → Written → Sight
+written_in v w = all_assigned (all_threatened v w.threats) w.assigned
+
+abbrev pub nothing_written : Written
+nothing_written = record { threats = []; assigned = [] }
+
+-- a statement part
+unfoldable pub statements_ended : Sight → List Statement → Outcome Sight
+statements_ended v body = do
+  done ← in_turn (map stated body) v
+  Ok (written_in v (in_turn_writes (map statement_writes body) v nothing_written))
+
+-- the tests at the end of a block, in the order of their places; its names were spelled in a text
+unfoldable pub end_allowed : List ℕ → Sight → Option Function → Block → Outcome (Unit {0})
+end_allowed text v result b = do
+  assigned ← result_assigned v result
+  placed ← each (placed_in v.labels) (out-Block b).labels
+  bodies_given text (out-Block b).routines
+
+-- the block ends, and what is around it counts again
+abbrev pub left : Sight → Sight → Sight
+left v w = record (outside w) { level = v.level }
+
+-- from the statement part on, for the block of an opening that began at v
+unfoldable pub block_ended : Sight → Opening → Block → List ℕ → Sight → Outcome Sight
+block_ended v p b text s = do
+  w ← statements_ended s (out-Block b).body
+  done ← end_allowed text w p.result b
+  Ok (left v w)
+
+abbrev pub standing : Sight → (Name → Option Opening) → Standing
+standing v waiting = record { seen = v; waiting = waiting }
+
+mutual
+  -- the block of an opening, from what is seen before it
+  pub data BlockMay : Sight → Opening → Block → Outcome Sight → Type 0 where
+    not_begun : {v : Sight} {p : Opening} {b : Block} {f : Fault} → BeginsMay v p b (Err f) → BlockMay v p b (Err f)
+    in_routines : {v u : Sight} {p : Opening} {b : Block} {f : Fault} → BeginsMay v p b (Ok u) → RoutinesMay (standing u nothing_waits) (planned u.text (out-Block b).routines) (Err f) → BlockMay v p b (Err f)
+    to_end : {v u : Sight} {p : Opening} {b : Block} {s : Standing} {o : Outcome Sight} → BeginsMay v p b (Ok u) → RoutinesMay (standing u nothing_waits) (planned u.text (out-Block b).routines) (Ok s)
+        → block_ended v p b u.text s.seen ≡ o → BlockMay v p b o
+
+  -- headings with their blocks, one after the other
+  pub data RoutinesMay : Standing → List (Routine × Option Block) → Outcome Standing → Type 0 where
+    no_more : {s : Standing} → RoutinesMay s [] (Ok s)
+    stops_in : {s : Standing} {r : Routine} {later : Option Block} {rest : List (Routine × Option Block)} {f : Fault} → RoutineMay s r later (Err f) → RoutinesMay s ((r, later) ∷ rest) (Err f)
+    goes_on : {s t : Standing} {r : Routine} {later : Option Block} {rest : List (Routine × Option Block)} {o : Outcome Standing} → RoutineMay s r later (Ok t) → RoutinesMay t rest o → RoutinesMay s ((r, later) ∷ rest) o
+
+  -- a heading with its block, or with a word in its place, for which a later block may count
+  pub data RoutineMay : Standing → Routine → Option Block → Outcome Standing → Type 0 where
+    is_word : {s : Standing} {r : Routine} {later : Option Block} {o : Outcome Standing} (word : Span) → (out-Routine r).body ≡ body_of.Word word → ForwardMay s r word later o → RoutineMay s r later o
+    not_opened : {s : Standing} {r : Routine} {later : Option Block} {f : Fault} (b : Block) → (out-Routine r).body ≡ body_of.Block b → OpenMay s r b (Err f) → RoutineMay s r later (Err f)
+    in_block : {s t : Standing} {r : Routine} {later : Option Block} {p : Opening} {f : Fault} (b : Block) → (out-Routine r).body ≡ body_of.Block b → OpenMay s r b (Ok (t, p)) → BlockMay t.seen p b (Err f) → RoutineMay s r later (Err f)
+    whole_block : {s t : Standing} {r : Routine} {later : Option Block} {p : Opening} {w : Sight} (b : Block) → (out-Routine r).body ≡ body_of.Block b → OpenMay s r b (Ok (t, p)) → BlockMay t.seen p b (Ok w)
+        → RoutineMay s r later (Ok (standing w t.waiting))
+
+-- ---- programs
+
+-- what every program may use
+abbrev pub required : List (Name × Meaning)
+required =
+    (codes "integer", means.Type 0) ∷ (codes "boolean", means.Type 1) ∷ (codes "maxint", means.Constant (record { boolean = false; value = pos maxint }))
+    ∷ (codes "true", means.Constant (record { boolean = true; value = pos 1 })) ∷ (codes "false", means.Constant (record { boolean = true; value = pos 0 }))
+    ∷ (codes "abs", means.Required function.Abs) ∷ (codes "sqr", means.Required function.Sqr) ∷ (codes "odd", means.Required function.Odd)
+    ∷ (codes "succ", means.Required function.Succ) ∷ (codes "pred", means.Required function.Pred) ∷ (codes "ord", means.Required function.Ord)
+    ∷ (codes "read", means.Transput transput.Read) ∷ (codes "readln", means.Transput transput.Readln)
+    ∷ (codes "write", means.Transput transput.Write) ∷ (codes "writeln", means.Transput transput.Writeln) ∷ []
+
+-- they are declared in a block around the program's
+abbrev pub all_ended : List (Name × Meaning) → Names → Names
+all_ended [] names = names
+all_ended (n ∷ rest) names = all_ended rest (ended n.0 0 n.1 names)
+
+-- what is seen at the beginning: nothing but these
+abbrev pub at_first : List ℕ → Labelled → Sight
+at_first text l = record {
+  text = text;
+  blocks = all_ended required [] ∷ [];
+  labels = l ∷ [];
+  types = Scalar false (pos 0 -ℤ pos maxint) (pos maxint) ∷ Scalar true (pos 0) (pos 1) ∷ [];
+  headings = [];
+  level = 0;
+  asserting = false;
+  looping = λ n. false;
+  threatened = λ n. false;
+  assigned = λ n. false;
+}
+
+-- the block of what every program may use has no labels
+pub record HasNone (l : Labelled) : Type 0 where
+  pub labels : (n : ℕ) → get nat_eq l.labels n ≡ None
+  pub function : l.function ≡ None
+
+pub record IsAtFirst (text : List ℕ) (v : Sight) : Type 0 where
+  pub outermost : Labelled
+  pub none : HasNone outermost
+  pub is : v ≡ at_first text outermost
+
+-- the block of a program
+abbrev pub program_opening : List ℕ → Block → Opening
+program_opening text b = record { level = 0; function = false; names = noted_all text (names_in b) []; result = None }
+
+-- The rule is broken at the place, and no rule is before it in the order of the text.
+pub record IsFirstBroken (text : List ℕ) (tree : Tree) (rule : Rule) (at : ℕ) : Type 0 where
+  pub outermost : Labelled
+  pub none : HasNone outermost
+  pub broken : BlockMay (at_first text outermost) (program_opening text tree.block) tree.block (Err (Broken rule at))
+
+-- a fault as it is told: the code of a rule, and the place where it is broken, if it lies in the text
+abbrev pub IsSound : List ℕ → Tree → CheckFault → Type 0
+IsSound text tree (told.Wrong code at) = (rule : Rule) × (place : ℕ) × (code ≡ code_of rule) × (place ≤ length text → at ≡ place) × IsFirstBroken text tree rule place
+IsSound text tree (told.Memory e) = Unit {0}
+
+-- the same before it is told
+abbrev pub IsSoundFault : List ℕ → Tree → Fault → Type 0
+IsSoundFault text tree (Broken rule at) = IsFirstBroken text tree rule at
+IsSoundFault text tree (Memory e) = Unit {0}
