@@ -14,3 +14,4 @@ pub mod ReachingNotes
 pub mod Scopes
 pub mod Statements
 pub mod Turns
+pub mod Writes

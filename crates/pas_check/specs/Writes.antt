@@ -1,6 +1,5 @@
 -- What statements write (ISO 7185, 6.8 and 6.9), where they break no rule: their parts in the order of the text.
 use Rattle.std.specs.Prelude.{ℕ, true, List, map, length, nat_eq, Option, Some, None, Ok, Err, if◌then◌else◌}
-use Rattle.px_base.specs.declared.place.Span.{Span}
 use Rattle.pas_tree.specs.declared.expr.Access.{Access}
 use Rattle.pas_tree.specs.declared.expr.ActualValue.TheViews.{out-Access}
 use Rattle.pas_tree.specs.declared.expr.Expr.{Expr}

@@ -7,6 +7,8 @@ ghost use Rattle.pas_check.specs.Rules.{is_double};
 ghost use Rattle.pas_check.specs.Sight.{sight};
 ghost use Rattle.pas_check.specs.Statement as spec;
 ghost use Rattle.pas_check.specs.Statements.{arms_in_turn, case_constants, stated_arm};
+ghost use Rattle.pas_check.specs.Writes.{arm_writes, in_turn_writes};
+ghost use Rattle.pas_check.specs.Written.{written};
 
 use crate::checker::Checker;
 use crate::fault::{Fault, Rule};
@@ -23,6 +25,7 @@ impl<'t> Checker<'t> {
     pub fn arms(&mut self, arms: &[Element], boolean: bool) -> Result<Items<Arm>, Fault>
         ensures value { Gives (λ list. tt) (arms_in_turn (sight self.old.seen) boolean [] (map stated_arm arms.now)) result }
         ensures kept { OnOk result (sight self.new.seen ≡ sight self.old.seen) }
+        ensures writes { OnOk result (written self.new.made ≡ in_turn_writes (map arm_writes arms.now) (sight self.old.seen) (written self.old.made)) }
     {
         let mut before = IndexMap::new(self.seen.alloc);
         let mut list = Items::new(self.seen.alloc);
@@ -50,6 +53,7 @@ impl<'t> Seen<'t> {
         before: &mut IndexMap<i32, ()>,
     ) -> Result<Items<i32>, Fault>
         ensures value { Gives (λ values. keys before.new) (case_constants (sight self.now) boolean (keys before.old) constants.now) result }
+        ensures writes { OnOk result (written made.new ≡ written made.old) }
     {
         let mut values = Items::new(self.alloc);
         for constant in constants {
@@ -69,6 +73,7 @@ impl<'t> Seen<'t> {
         before: &IndexMap<i32, ()>,
     ) -> Result<i32, Fault>
         ensures value { Gives (λ z. z) (spec.case_constant (sight self.now) (keys before.now) boolean constant.now) result }
+        ensures writes { OnOk result (written made.new ≡ written made.old) }
         ensures new { IfOk result (λ z. is_double z (keys before.now) ≡ false) }
     {
         let value = self.constant(made, constant)?;

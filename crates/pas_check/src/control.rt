@@ -10,6 +10,7 @@ ghost use Rattle.pas_check.specs.Expr.{found};
 ghost use Rattle.pas_check.specs.Outcome.{Gives};
 ghost use Rattle.pas_check.specs.Sight.{Sight, sight};
 ghost use Rattle.pas_check.specs.Statements.{for_head, over, stated};
+ghost use Rattle.pas_check.specs.Writes.{statement_writes};
 ghost use Rattle.pas_check.specs.Written.{written};
 
 use crate::checker::Checker;
@@ -25,6 +26,7 @@ impl<'t> Seen<'t> {
     /// threatens.
     pub fn control(&self, made: &mut Made, name: Span) -> Result<(Variable, bool), Fault>
         ensures value { Gives (λ r. r) (spec.controlled (sight self.now) name) result }
+        ensures writes { written made.new ≡ written made.old }
     {
         let meaning = self.meaning(made, name)?;
         self.control_meant(meaning, name.start)
@@ -87,6 +89,7 @@ impl<'t> Seen<'t> {
         at: Span,
     ) -> Result<ForHead, Fault>
         ensures value { Gives (λ h. h.variable) (for_head (sight self.now) control (found (sight self.now) first.now) (found (sight self.now) last.now)) result }
+        ensures writes { OnOk result (written made.new ≡ (found (sight self.now) last.now).writes ((found (sight self.now) first.now).writes (written made.old))) }
     {
         let (variable, boolean) = self.control(made, control)?;
         let bound = made.add_own(at, VarKind::Bound, variable.of_type)?;
@@ -175,6 +178,7 @@ impl<'t> Checker<'t> {
     ) -> Result<Body, Fault>
         ensures value { Gives (λ b. tt) (stated body.now (over (sight self.old.seen) head.variable.at)) result }
         ensures kept { (sight self.old.seen).looping head.variable.at ≡ false → OnOk result (sight self.new.seen ≡ sight self.old.seen) }
+        ensures writes { OnOk result (written self.new.made ≡ statement_writes body.now (over (sight self.old.seen) head.variable.at) (written self.old.made)) }
     {
         let ForHead {
             variable,

@@ -1,6 +1,6 @@
 //! Statements (ISO 7185, 6.8).
 
-ghost use Rattle.std.specs.Prelude.{◌≡◌, OnOk, map};
+ghost use Rattle.std.specs.Prelude.{◌≡◌, IfOk, OnOk, map};
 ghost use Rattle.std.specs.Option.{option_map};
 ghost use Rattle.pas_check.specs.Expr.{found};
 ghost use Rattle.pas_check.specs.Outcome.{Gives, each};
@@ -8,6 +8,8 @@ ghost use Rattle.pas_check.specs.Sight.{sight};
 ghost use Rattle.pas_check.specs.Statement as spec;
 ghost use Rattle.pas_check.specs.Statements as whole;
 ghost use Rattle.pas_check.specs.Statements.{in_branch, in_turn, stated, stated_body};
+ghost use Rattle.pas_check.specs.Writes.{assertion_writes, assignment_writes, body_writes, branch_writes, in_turn_writes, statement_writes};
+ghost use Rattle.pas_check.specs.Written.{assigns, writes_in_turn, written};
 
 use crate::access::Reached;
 use crate::checker::Checker;
@@ -28,6 +30,7 @@ impl<'t> Checker<'t> {
     pub fn sequence(&mut self, body: &[pas_tree::Statement]) -> Result<Items<Statement>, Fault>
         ensures value { Gives (λ list. tt) (in_turn (map stated body.now) (sight self.old.seen)) result }
         ensures kept { OnOk result (sight self.new.seen ≡ sight self.old.seen) }
+        ensures writes { OnOk result (written self.new.made ≡ in_turn_writes (map statement_writes body.now) (sight self.old.seen) (written self.old.made)) }
     {
         let mut list = Items::new(self.seen.alloc);
         for statement in body {
@@ -41,6 +44,7 @@ impl<'t> Checker<'t> {
     pub fn statement(&mut self, statement: &pas_tree::Statement) -> Result<Statement, Fault>
         ensures value { Gives (λ s. tt) (stated statement.now (sight self.old.seen)) result }
         ensures kept { OnOk result (sight self.new.seen ≡ sight self.old.seen) }
+        ensures writes { OnOk result (written self.new.made ≡ statement_writes statement.now (sight self.old.seen) (written self.old.made)) }
     {
         let label = self.seen.label_before(statement.label)?;
         let asserts = self.assertions(statement.asserts.as_slice())?;
@@ -57,6 +61,7 @@ impl<'t> Checker<'t> {
     pub fn boxed(&mut self, statement: &pas_tree::Statement) -> Result<Boxed<Statement>, Fault>
         ensures value { Gives (λ s. tt) (stated statement.now (sight self.old.seen)) result }
         ensures kept { OnOk result (sight self.new.seen ≡ sight self.old.seen) }
+        ensures writes { OnOk result (written self.new.made ≡ statement_writes statement.now (sight self.old.seen) (written self.old.made)) }
     {
         let checked = self.statement(statement)?;
         Boxed::new(self.seen.alloc, checked).map_err(Fault::Memory)
@@ -70,6 +75,7 @@ impl<'t> Checker<'t> {
     ) -> Result<Option<Boxed<Statement>>, Fault>
         ensures value { Gives (λ s. tt) (in_branch (option_map stated statement.now) (sight self.old.seen)) result }
         ensures kept { OnOk result (sight self.new.seen ≡ sight self.old.seen) }
+        ensures writes { OnOk result (written self.new.made ≡ branch_writes (option_map statement_writes statement.now) (sight self.old.seen) (written self.old.made)) }
     {
         match statement {
             Some(statement) => Ok(Some(self.boxed(statement.get())?)),
@@ -81,6 +87,7 @@ impl<'t> Checker<'t> {
     fn assertions(&mut self, assertions: &[Assertion]) -> Result<Items<u32>, Fault>
         ensures value { Gives (λ list. tt) (each (whole.asserted (sight self.old.seen)) assertions.now) result }
         ensures kept { OnOk result (sight self.new.seen ≡ sight self.old.seen) }
+        ensures writes { OnOk result (written self.new.made ≡ writes_in_turn (assertion_writes (sight self.old.seen)) assertions.now (written self.old.made)) }
     {
         let mut numbers = Items::new(self.seen.alloc);
         for assertion in assertions {
@@ -103,6 +110,7 @@ impl<'t> Checker<'t> {
     fn asserted(&mut self, assertion: &Assertion) -> Result<Expr, Fault>
         ensures value { Gives (λ x. tt) (whole.asserted (sight self.old.seen) assertion.now) result }
         ensures kept { OnOk result (sight self.new.seen ≡ sight self.old.seen) }
+        ensures writes { OnOk result (written self.new.made ≡ assertion_writes (sight self.old.seen) assertion.now (written self.old.made)) }
     {
         let outside = mem::replace(&mut self.seen.asserting, true);
         let cond = self.seen.of_host(&mut self.made, &assertion.cond, true)?;
@@ -110,19 +118,22 @@ impl<'t> Checker<'t> {
         Ok(cond)
     }
 
+    #[tactic(auto, unfolding(crate::specs::Written::written))]
     fn add_assert(&mut self, assert: Assert) -> Result<u32, AllocError>
         ensures kept { self.new.seen ≡ self.old.seen }
+        ensures writes { written self.new.made ≡ written self.old.made }
     {
         let number = u32::try_from(self.made.asserts.len()).map_err(|_| AllocError)?;
         self.made.asserts.push(assert)?;
         Ok(number)
     }
 
-    #[tactic(auto, unfolding(crate::specs::Statements::stated, crate::specs::Statements::stated_body, crate::specs::Statements::stated_arm))]
+    #[tactic(auto, unfolding(crate::specs::Statements::stated, crate::specs::Statements::stated_body, crate::specs::Statements::stated_arm, crate::specs::Writes::statement_writes, crate::specs::Writes::body_writes, crate::specs::Writes::arm_writes))]
     #[cycle(statement)]
     fn body(&mut self, body: &pas_tree::Body, at: Span) -> Result<Body, Fault>
         ensures value { Gives (λ b. tt) (stated_body body.now at.start (sight self.old.seen)) result }
         ensures kept { OnOk result (sight self.new.seen ≡ sight self.old.seen) }
+        ensures writes { OnOk result (written self.new.made ≡ body_writes body.now (sight self.old.seen) (written self.old.made)) }
     {
         match body {
             pas_tree::Body::Empty => Ok(Body::Empty),
@@ -182,6 +193,7 @@ impl<'t> Seen<'t> {
         value: &pas_tree::Expr,
     ) -> Result<Body, Fault>
         ensures value { Gives (λ b. tt) (whole.assignment (sight self.now) to.now value.now) result }
+        ensures writes { OnOk result (written made.new ≡ assignment_writes (sight self.now) to.now value.now (written made.old)) }
     {
         let (body, function) = self.target_and_value(made, to, value)?;
         match function {
@@ -200,6 +212,7 @@ impl<'t> Seen<'t> {
         value: &pas_tree::Expr,
     ) -> Result<(Body, Option<usize>), Fault>
         ensures value { Gives (λ b. b.1) (spec.assigned (sight self.now) to.now.name (map (found (sight self.now)) to.now.subscripts) (found (sight self.now) value.now)) result }
+        ensures writes { IfOk result (λ b. assigns b.1 (written made.new) ≡ assignment_writes (sight self.now) to.now value.now (written made.old)) }
     {
         let meaning = self.meaning(made, to.name)?;
         let (variable, function) = self.target(meaning, to.name.start)?;
@@ -232,6 +245,7 @@ impl<'t> Seen<'t> {
         value: &pas_tree::Expr,
     ) -> Result<Body, Fault>
         ensures value { Gives (λ b. tt) (spec.value_assigned (sight self.now) target.of_type (found (sight self.now) value.now)) result }
+        ensures writes { OnOk result (written made.new ≡ (found (sight self.now) value.now).writes (written made.old)) }
     {
         match self.expr(made, value)? {
             Typed::Scalar { expr, boolean } if self.is_host(target.of_type, boolean) => {
@@ -249,7 +263,10 @@ impl<'t> Seen<'t> {
     }
 }
 
-fn assign_result(made: &mut Made, head: usize) -> Result<(), AllocError> {
+#[tactic(auto, unfolding(crate::specs::Written::written))]
+fn assign_result(made: &mut Made, head: usize) -> Result<(), AllocError>
+    ensures { OnOk result (written made.new ≡ assigns (Some head) (written made.old)) }
+{
     made.assigned.push(head)?;
     Ok(())
 }

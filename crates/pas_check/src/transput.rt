@@ -1,12 +1,14 @@
 //! Procedure calls, `read` and `write` among them (ISO 7185, 6.8.2.3 and 6.9).
 
-ghost use Rattle.std.specs.Prelude.{◌≡◌, false, map};
+ghost use Rattle.std.specs.Prelude.{◌≡◌, false, OnOk, map};
 ghost use Rattle.std.specs.Option.{option_map};
-ghost use Rattle.pas_check.specs.Expr.{found, given, value_given};
+ghost use Rattle.pas_check.specs.Expr.{all_passed_writes, formals_at, found, found_writes, given, given_writes, meant, value_given};
 ghost use Rattle.pas_check.specs.Outcome.{Gives, each};
 ghost use Rattle.pas_check.specs.Sight.{sight};
 ghost use Rattle.pas_check.specs.Statement as spec;
 ghost use Rattle.pas_check.specs.Statements as whole;
+ghost use Rattle.pas_check.specs.Writes.{item_writes, procedure_writes, read_writes, transput_writes, width_writes};
+ghost use Rattle.pas_check.specs.Written.{writes_in_turn, written};
 
 use crate::fault::{Fault, Rule};
 use crate::meaning::{Meaning, Transput};
@@ -46,6 +48,7 @@ impl<'t> Seen<'t> {
     #[tactic(auto, unfolding(crate::specs::Statements::call))]
     pub fn call(&self, made: &mut Made, name: Span, actuals: &[Actual]) -> Result<Body, Fault>
         ensures value { Gives (λ b. tt) (whole.call (sight self.now) name (map (given (sight self.now)) actuals.now)) result }
+        ensures writes { OnOk result (written made.new ≡ procedure_writes (sight self.now) (meant (sight self.now) name) (map (given (sight self.now)) actuals.now) (written made.old)) }
     {
         let meaning = self.meaning(made, name)?;
         self.called_by(made, meaning, name, actuals)
@@ -60,6 +63,7 @@ impl<'t> Seen<'t> {
         actuals: &[Actual],
     ) -> Result<Body, Fault>
         ensures value { Gives (λ b. tt) (whole.called_by (sight self.now) meaning name.start (map (given (sight self.now)) actuals.now)) result }
+        ensures writes { OnOk result (written made.new ≡ procedure_writes (sight self.now) (Ok meaning) (map (given (sight self.now)) actuals.now) (written made.old)) }
     {
         match meaning {
             Meaning::Routine {
@@ -80,6 +84,7 @@ impl<'t> Seen<'t> {
         actuals: &[Actual],
     ) -> Result<Body, Fault>
         ensures value { Gives (λ b. tt) (spec.procedure_call (sight self.now) head name.start (map (given (sight self.now)) actuals.now)) result }
+        ensures writes { OnOk result (written made.new ≡ all_passed_writes (sight self.now) (formals_at (sight self.now) head) (map (given (sight self.now)) actuals.now) (written made.old)) }
     {
         let Some(callee) = self.callee(head) else {
             return Err(Rule::Kind.broken(name.start));
@@ -103,6 +108,7 @@ impl<'t> Seen<'t> {
         actuals: &[Actual],
     ) -> Result<Body, Fault>
         ensures value { Gives (λ b. tt) (whole.transput_call (sight self.now) transput name.start (map (given (sight self.now)) actuals.now)) result }
+        ensures writes { OnOk result (written made.new ≡ transput_writes (sight self.now) transput (map (given (sight self.now)) actuals.now) (written made.old)) }
     {
         let line = is_line(transput);
         if actuals.is_empty() && !line {
@@ -117,6 +123,7 @@ impl<'t> Seen<'t> {
     /// Variables of the host `integer`.
     fn read(&self, made: &mut Made, actuals: &[Actual], line: bool) -> Result<Body, Fault>
         ensures value { Gives (λ b. tt) (spec.all_read (sight self.now) (map (given (sight self.now)) actuals.now)) result }
+        ensures writes { OnOk result (written made.new ≡ writes_in_turn (read_writes (sight self.now)) (map (given (sight self.now)) actuals.now) (written made.old)) }
     {
         let mut to = Items::new(self.alloc);
         for actual in actuals {
@@ -129,6 +136,7 @@ impl<'t> Seen<'t> {
     #[tactic(auto, unfolding(crate::specs::Statement::read_into))]
     fn read_into(&self, made: &mut Made, actual: &Actual) -> Result<Access, Fault>
         ensures value { Gives (λ a. tt) (spec.read_into (sight self.now) (given (sight self.now) actual.now)) result }
+        ensures writes { OnOk result (written made.new ≡ read_writes (sight self.now) (given (sight self.now) actual.now) (written made.old)) }
     {
         let value = self.value_actual(actual)?;
         let reached = self.variable_of(made, value)?;
@@ -143,6 +151,7 @@ impl<'t> Seen<'t> {
     /// Scalars and strings.
     fn write(&self, made: &mut Made, actuals: &[Actual], line: bool) -> Result<Body, Fault>
         ensures value { Gives (λ b. tt) (each whole.written (map (given (sight self.now)) actuals.now)) result }
+        ensures writes { OnOk result (written made.new ≡ writes_in_turn item_writes (map (given (sight self.now)) actuals.now) (written made.old)) }
     {
         let mut items = Items::new(self.alloc);
         for actual in actuals {
@@ -155,6 +164,7 @@ impl<'t> Seen<'t> {
     #[tactic(auto, unfolding(crate::specs::Statements::written, crate::specs::Expr::given))]
     fn written(&self, made: &mut Made, actual: &Actual) -> Result<WriteItem, Fault>
         ensures value { Gives (λ i. tt) (whole.written (given (sight self.now) actual.now)) result }
+        ensures writes { OnOk result (written made.new ≡ item_writes (given (sight self.now) actual.now) (written made.old)) }
     {
         let value = self.value_written(made, &actual.value)?;
         let width = self.width_written(made, &actual.width)?;
@@ -168,6 +178,7 @@ impl<'t> Seen<'t> {
         width: &Option<pas_tree::Expr>,
     ) -> Result<Option<Expr>, Fault>
         ensures value { Gives (λ w. tt) (whole.width_written (option_map (found (sight self.now)) width.now)) result }
+        ensures writes { OnOk result (written made.new ≡ width_writes (option_map (found (sight self.now)) width.now) (written made.old)) }
     {
         match width {
             Some(width) => Ok(Some(self.of_host(made, width, false)?)),
@@ -178,6 +189,7 @@ impl<'t> Seen<'t> {
     #[tactic(auto, unfolding(crate::specs::Expr::value_given, crate::specs::Expr::found))]
     fn value_written(&self, made: &mut Made, value: &ActualValue) -> Result<WriteValue, Fault>
         ensures value { Gives (λ w. tt) (whole.value_written (value_given (sight self.now) value.now)) result }
+        ensures writes { OnOk result (written made.new ≡ given_writes found_writes (value_given (sight self.now) value.now) (written made.old)) }
     {
         match value {
             ActualValue::Value(value) => Ok(WriteValue::Value(self.scalar(made, value)?.0)),

@@ -2,8 +2,10 @@ use Rattle.std.proofs.Common.{[], map, rules, ◌∙◌}
 use Rattle.indexmap.specs.IndexMap.{keys}
 use Rattle.pas_check.specs.Sight.{sight}
 use Rattle.pas_check.specs.Statements.{arms_in_turn, stated_arm}
+use Rattle.pas_check.specs.Writes.{Writing, arm_writes}
 use Rattle.pas_check.proofs.Passing.{gives_wrong}
 use Rattle.pas_check.proofs.Statements.{arm_fails, arm_goes, asserts_fail, body_is, consts_fail, head_free, label_fails}
+use Rattle.pas_check.proofs.Writes.{arm_writes_are, statement_writes_are, turn_goes}
 use Rattle.pas_check.proofs.checker.Checker.+statement.Goals as goal
 
 pub statement-returns-in_err-label-clause-value : goal.statement-returns-in_err-label-clause-value
@@ -23,6 +25,10 @@ statement-returns-in_err-body-clause-value t c =
 pub statement-returns-clause-value : goal.statement-returns-clause-value
 statement-returns-clause-value t c =
     body_is c.args.statement.now (sight c.args.self.now.seen) c.as_slice.result.now _ _ c.in_ok-label.ensures.value c.as_slice.ensures c.in_ok-asserts.ensures.value c.in_ok-asserts.ensures.kept c.in_ok-body.ensures.value
+
+pub statement-returns-clause-writes : goal.statement-returns-clause-writes
+statement-returns-clause-writes t c =
+    statement_writes_are c.args.statement.now (sight c.args.self.now.seen) _ c.as_slice.result.now _ _ _ c.as_slice.ensures c.in_ok-asserts.ensures.writes c.in_ok-asserts.ensures.kept c.in_ok-body.ensures.writes
 
 pub body-returns-in_ok-head-in-For-clause-kept : goal.body-returns-in_ok-head-in-For-clause-kept
 body-returns-in_ok-head-in-For-clause-kept t c = c.for_statement.ensures.kept (head_free (sight c.args.self.now.seen) _ _ _ _ c.in_ok-head-in-For.ensures.value)
@@ -47,4 +53,6 @@ arms-loop-arm-preserved t c =
       kept = c.in_ok-body.ensures.kept ∙ c.loop-arm.invariant.kept;
       rest = arm_goes v c.args.boolean c.args.arms.now c.loop-arm.arm-index c.arm-item.result (arms_in_turn v c.args.boolean [] (map stated_arm c.args.arms.now)) (keys c.loop-arm.before) (sight c.loop-arm.self.seen) c.as_slice.result.now
           c.loop-arm.invariant.kept c.loop-arm-test.true c.arm-item.is c.loop-arm.invariant.rest c.as_slice.ensures _ c.in_ok-consts.ensures.value c.in_ok-body.ensures.value;
+      writes = turn_goes (λ (s : Writing). s v) arm_writes c.args.arms.now c.loop-arm.arm-index c.arm-item.result _ _ _ c.loop-arm-test.true c.arm-item.is c.loop-arm.invariant.writes
+          (arm_writes_are c.arm-item.result v (sight c.loop-arm.self.seen) _ _ _ c.loop-arm.invariant.kept c.in_ok-consts.ensures.writes c.in_ok-body.ensures.writes);
     }

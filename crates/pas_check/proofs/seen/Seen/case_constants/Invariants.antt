@@ -2,8 +2,11 @@ use Rattle.std.proofs.Common.{◌≡◌, drop}
 use Rattle.indexmap.specs.IndexMap.{keys}
 use Rattle.pas_check.specs.Sight.{sight}
 use Rattle.pas_check.specs.Statements.{case_constants}
+use Rattle.pas_check.specs.Written.{written}
 use Rattle.pas_check.proofs.seen.Seen.case_constants.Given as goal
 
 abbrev pub invariant-loop-constant : goal.invariant-loop-constant
-invariant-loop-constant l =
-    case_constants (sight l.self) l.boolean (keys l.fn.before) l.constants ≡ case_constants (sight l.self) l.boolean (keys l.before) (drop l.constant-index l.constants)
+invariant-loop-constant l = record {
+  rest : case_constants (sight l.self) l.boolean (keys l.fn.before) l.constants ≡ case_constants (sight l.self) l.boolean (keys l.before) (drop l.constant-index l.constants);
+  writes : written l.made ≡ written l.fn.made;
+}

@@ -3,21 +3,24 @@ use Rattle.pas_check.specs.Expr.{given}
 use Rattle.pas_check.specs.Outcome.{◌>>=◌}
 use Rattle.pas_check.specs.Sight.{sight}
 use Rattle.pas_check.specs.Statement.{all_read}
+use Rattle.pas_check.specs.Writes.{read_writes}
 use Rattle.pas_check.proofs.Passing.{gives_wrong, read_next}
+use Rattle.pas_check.proofs.Writes.{turn_goes}
 use Rattle.pas_check.proofs.seen.Seen.read.Goals as goal
 
 pub loop-actual-preserved : goal.loop-actual-preserved
 loop-actual-preserved c =
     let v = sight c.args.self.now in
-    let rest = all_read v (map (given v) (drop (c.loop-actual.actual-index + 1) c.args.actuals.now)) in
-    c.loop-actual.invariant ∙ read_next v c.args.actuals.now c.loop-actual.actual-index c.actual-item.result c.loop-actual-test.true c.actual-item.is
-    ∙ ap (λ o. o >>= (λ done. rest)) c.in_ok-access.ensures.value
-
-pub returns-in_err-access : goal.returns-in_err-access
-returns-in_err-access c =
-    let v = sight c.args.self.now in
     let rest = all_read v (map (given v) (drop (c.loop-actual.actual-index + 1) c.args.actuals.now)) in record {
-      value = gives_wrong _ _ c.from_residual.result c.in_err-access.field-0.0 (search rules) (λ own.
-          c.loop-actual.invariant ∙ read_next v c.args.actuals.now c.loop-actual.actual-index c.actual-item.result c.loop-actual-test.true c.actual-item.is
-          ∙ ap (λ o. o >>= (λ done. rest)) (c.in_err-access.ensures.value own));
+      rest = c.loop-actual.invariant.rest ∙ read_next v c.args.actuals.now c.loop-actual.actual-index c.actual-item.result c.loop-actual-test.true c.actual-item.is
+          ∙ ap (λ o. o >>= (λ done. rest)) c.in_ok-access.ensures.value;
+      writes = turn_goes (read_writes v) (given v) c.args.actuals.now c.loop-actual.actual-index c.actual-item.result _ _ _ c.loop-actual-test.true c.actual-item.is c.loop-actual.invariant.writes c.in_ok-access.ensures.writes;
     }
+
+pub returns-in_err-access-clause-value : goal.returns-in_err-access-clause-value
+returns-in_err-access-clause-value c =
+    let v = sight c.args.self.now in
+    let rest = all_read v (map (given v) (drop (c.loop-actual.actual-index + 1) c.args.actuals.now)) in
+    gives_wrong _ _ c.from_residual.result c.in_err-access.field-0.0 (search rules) (λ own.
+    c.loop-actual.invariant.rest ∙ read_next v c.args.actuals.now c.loop-actual.actual-index c.actual-item.result c.loop-actual-test.true c.actual-item.is
+    ∙ ap (λ o. o >>= (λ done. rest)) (c.in_err-access.ensures.value own))
