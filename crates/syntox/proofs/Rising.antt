@@ -1,13 +1,11 @@
 -- In the tree of a program the places of statements rise with the text.
-use Rattle.std.proofs.Common.{◌≡◌, ℕ, zero, suc, ◌+◌, ◌<◌, ◌≤◌, true, false, List, [], ◌∷◌, length, map, Option, Some, None, refl, ap, sym, subst, ◌∙◌, get_or, nat_eq, arith}
-use Rattle.std.specs.Prelude.{Contains}
-use Rattle.std.proofs.lemmas.Bool.Decides.{nat_tests}
+use Rattle.std.proofs.Common.{◌≡◌, ℕ, zero, suc, ◌+◌, ◌<◌, ◌≤◌, List, length, map, Option, Some, None, ap, sym, subst, ◌∙◌, get_or, arith}
 use Rattle.px_base.specs.declared.place.Span.{Span}
 use Rattle.pas_lexer.specs.Spans.{SpansRise}
 use Rattle.pas_lexer.specs.declared.token.Token.{Token}
-use Rattle.pas_tree.specs.declared.block.Block.{Block, roll-Block}
+use Rattle.pas_tree.specs.declared.block.Block.{Block}
 use Rattle.pas_tree.specs.declared.block.Label.{Label}
-use Rattle.pas_tree.specs.declared.block.Routine.{Routine, roll-Routine}
+use Rattle.pas_tree.specs.declared.block.Routine.{Routine}
 use Rattle.pas_tree.specs.declared.block.RoutineBody.{RoutineBody}
 use Rattle.pas_tree.specs.declared.block.RoutineBody.TheOpen.{Block-F, Routine-F, RoutineBody-F}
 use Rattle.pas_tree.specs.declared.block.RoutineBody.TheVariants as body_of
@@ -24,22 +22,18 @@ use Rattle.pas_parser.specs.Grammar.Statement as statement
 use Rattle.pas_parser.proofs.Advance as advance
 use Rattle.pas_parser.proofs.Layers as layer
 use Rattle.pas_parser.proofs.Rules.{starts_later}
-use Rattle.rise.specs.Placing.{Before, Content, LabelRises, Nothing, Outline, PlacesRise, Rises, Then, arm_of, body_step, content, element_step, in_order, outline, outline_of, statement_step}
-use Rattle.rise.specs.Rising.{IsBlockIn, itself, inside}
+use Rattle.pas_check.specs.Placing.{Before, Content, LabelRises, Nothing, Outline, PlacesRise, Rises, arm_of, body_step, content, element_step, in_order, outline, outline_of, statement_step}
+use Rattle.syntox.specs.Rising.{IsBlockIn, itself, inside}
 
 module _ (tokens : List Token) (len : ℕ) (rise : SpansRise len tokens) where
   abbrev start : ℕ → ℕ
   start i = (span_at tokens i).start
 
   later : (i j : ℕ) → i < j → j < length tokens → start i < start j
-  later i j less here = starts_later tokens len rise i j less here
+  later = starts_later tokens len rise
 
   no_earlier : (i j : ℕ) → i ≤ j → j < length tokens → start i ≤ start j
-  no_earlier i j le here =
-      elim (nat_eq i j) as (λ b. nat_eq i j ≡ b → start i ≤ start j) [
-        | true ↦ λ e. let same : i ≡ j = grind (arith, nat_tests) in omega (arith, ap (λ (k : ℕ). start k) same)
-        | false ↦ λ e. let less : i < j = grind (arith, nat_tests) in omega (arith, later i j less here)
-      ] refl
+  no_earlier i j le here = grind (arith, later)
 
   -- ---- what begins at the token i, and is followed by the token l
 
@@ -81,10 +75,10 @@ module _ (tokens : List Token) (len : ℕ) (rise : SpansRise len tokens) where
   }
 
   by_before : {b c : Before} {i l : ℕ} → b ≡ c → Goes c i l → Goes b i l
-  by_before {i = i} {l = l} e h = let P : Before → Type 0 = λ b. Goes b i l in subst P (sym e) h
+  by_before {i = i} {l = l} e h = subst (λ (b : Before). Goes b i l) (sym e) h
 
   by_content : {c d : Content} {i l : ℕ} → c ≡ d → Holds d.inner i l → Holds c.inner i l
-  by_content {i = i} {l = l} e h = let P : Content → Type 0 = λ c. Holds c.inner i l in subst P (sym e) h
+  by_content {i = i} {l = l} e h = subst (λ (c : Content). Holds c.inner i l) (sym e) h
 
   label_rises : (x : Option Label) (i j k least : ℕ) → statement.IsLabelPart tokens x i j → j ≤ k → k < length tokens → least ≤ start i → LabelRises least x (start k)
   label_rises x i j k least statement.unlabelled le here low = omega (arith, no_earlier i k le here)
@@ -92,6 +86,7 @@ module _ (tokens : List Token) (len : ℕ) (rise : SpansRise len tokens) where
 
   mutual
     unfolding outline_of content arm_of
+
     of_statement : {x : Statement} {i l : ℕ} → statement.IsStatement tokens x i l → Goes (outline_of x) i l
     of_statement (statement.statement {i = i} {j = j} {k = k} {label = label} {asserts = asserts} {body = body} a b c) =
         let first = advance.label_part tokens a in
@@ -156,12 +151,11 @@ module _ (tokens : List Token) (len : ℕ) (rise : SpansRise len tokens) where
     first : ℕ
     last : ℕ
     routines : block.IsRoutines tokens b.routines first last
-    earlier : last ≤ end
+    routines_before : last ≤ end
 
   opened : {x : Block} {i j : ℕ} → block.IsBlock tokens x i j → Opened (out-Block x) j
   opened (block.block {m = m} {n = n} {o = o} {p = p} {q = q} {labels = labels} {consts = consts} {types = types} {vars = vars} {routines = routines} {body = body} a b c d e w h f) =
-      let P : Block-F RoutineBody Block Routine → Type 0 = λ x. Opened x q in
-      subst P (sym (out-roll-Block (record { labels = labels; consts = consts; types = types; vars = vars; routines = routines; «begin» = span_at tokens n; body = body; «end» = span_at tokens p }))) (record {
+      subst (λ (x : Block-F RoutineBody Block Routine). Opened x q) (sym (out-roll-Block (record { labels = labels; consts = consts; types = types; vars = vars; routines = routines; «begin» = span_at tokens n; body = body; «end» = span_at tokens p }))) (record {
         from = o;
         next = p;
         body = h;
@@ -169,9 +163,10 @@ module _ (tokens : List Token) (len : ℕ) (rise : SpansRise len tokens) where
         first = m;
         last = n;
         routines = e;
-        earlier = omega (arith, w.next, (of_sequence h).up, f.next);
+        routines_before = omega (arith, w.next, (of_sequence h).up, f.next);
       })
 
+  -- a routine that ends no later
   record IsRoutineBefore (r : Routine) (end : ℕ) : Type 0 where
     from : ℕ
     next : ℕ
@@ -181,7 +176,7 @@ module _ (tokens : List Token) (len : ℕ) (rise : SpansRise len tokens) where
   routine_before : {xs : List Routine} {i j : ℕ} → block.IsRoutines tokens xs i j → (k : ℕ) (r : Routine) → k < length xs → get_or xs k r ≡ r → IsRoutineBefore r j
   routine_before block.no_routine k r less is = absurd (omega arith)
   routine_before (block.routines {i = i} {j = j} {k = end} h rest) zero r less is =
-      let P : Routine → Type 0 = λ x. IsRoutineBefore x end in subst P is (record { from = i; next = j; routine = h; before = advance.of_routines tokens rest })
+      subst (λ (x : Routine). IsRoutineBefore x end) is (record { from = i; next = j; routine = h; before = advance.of_routines tokens rest })
   routine_before (block.routines h rest) (suc k) r less is = routine_before rest k r (omega arith) is
 
   inner_is : (b : Block) → out-RoutineBody (body_of.Block b) ≡ RoutineBody-F.Block b
@@ -196,8 +191,9 @@ module _ (tokens : List Token) (len : ℕ) (rise : SpansRise len tokens) where
   block_of_body (block.inner {i = i} {j = j} {block = b} h) inner e =
       let opened : RoutineBody-F.Block b ≡ RoutineBody-F.Block inner = sym (inner_is b) ∙ ap out-RoutineBody e ∙ inner_is inner in
       let same : b ≡ inner = cc in
-      let P : Block → Type 0 = λ x. block.IsBlock tokens x i j in subst P same h
+      subst (λ (x : Block). block.IsBlock tokens x i j) same h
 
+  -- a block that ends earlier
   record IsBlockBefore (b : Block) (end : ℕ) : Type 0 where
     from : ℕ
     next : ℕ
@@ -216,7 +212,7 @@ module _ (tokens : List Token) (len : ℕ) (rise : SpansRise len tokens) where
   in_block (inside {inner = inner} {r = r} has is deeper) h here =
       let o = opened h in
       let routine = routine_before o.routines has.0 r has.1 has.2 in
-      let b = block_of_routine routine.routine inner is in in_block deeper b.is_block (omega (arith, b.before, routine.before, o.earlier))
+      let b = block_of_routine routine.routine inner is in in_block deeper b.is_block (omega (arith, b.before, routine.before, o.routines_before))
 
   in_program : {x : Tree} {i j : ℕ} → program.IsProgramFrom tokens x i j → j ≤ length tokens → (b : Block) → IsBlockIn b x.block → PlacesRise (out-Block b).body
   in_program (program.program w name a s h d) le b there = in_block there h (omega (arith, d.next))
