@@ -7,6 +7,7 @@ pub mod Headings
 pub mod Loops
 pub mod Noted
 pub mod Passing
+pub mod Plans
 pub mod Reaching
 pub mod ReachingMarks
 pub mod ReachingLaw
@@ -14,3 +15,4 @@ pub mod ReachingNotes
 pub mod Scopes
 pub mod Statements
 pub mod Turns
+pub mod ByName
