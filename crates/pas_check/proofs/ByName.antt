@@ -1,11 +1,11 @@
 -- Values by names, and headings that wait.
-use Rattle.std.proofs.Common.{◌≡◌, ℕ, Bool, true, false, cond, not, true≢false, List, [], ◌∷◌, refl, sym, ap, ◌∙◌, Option, None, Some, option_map, bytes_eq, Vec, Global}
+use Rattle.std.proofs.Common.{◌≡◌, ℕ, Bool, true, false, cond, not, true≢false, List, [], ◌∷◌, refl, sym, ap, ◌∙◌, Option, Some, option_map, bytes_eq, Vec, Global}
 use Rattle.std.proofs.lemmas.Slice.Eq.{bytes_eq-Decides}
 use Rattle.std.specs.Bool.{beq}
 use Rattle.std.specs.Map.{lookup, KeepsOthers}
 use Rattle.pas_check.specs.declared.heading.Opened.{Opened}
 use Rattle.pas_check.specs.Blocks.{opening_for, waits, with_word}
-use Rattle.pas_check.specs.Headings.{Opening, opening_of}
+use Rattle.pas_check.specs.Headings.{opening_of}
 use Rattle.pas_check.specs.Names.{Name}
 
 apart : (a b c : List ℕ) → bytes_eq a b ≡ false → a ≡ c → bytes_eq b c ≡ false
@@ -53,7 +53,7 @@ module _ {V : Type 0} (name : Name) (old new : List (Vec ℕ Global × V)) (w : 
   pub changed_at : lookup (λ (k : Vec ℕ Global). bytes_eq other k.items) new ≡ cond (bytes_eq name other) w (lookup (λ (k : Vec ℕ Global). bytes_eq other k.items) old)
   changed_at = by_test (bytes_eq name other) refl
 
-pub opening_found : (name : Name) (es : List (Vec ℕ Global × Opened)) → opening_for name es ≡ option_map opening_of (lookup (λ (k : Vec ℕ Global). bytes_eq name k.items) es)
+opening_found : (name : Name) (es : List (Vec ℕ Global × Opened)) → opening_for name es ≡ option_map opening_of (lookup (λ (k : Vec ℕ Global). bytes_eq name k.items) es)
 opening_found name [] = refl
 opening_found name (e ∷ es) =
     ap (cond (bytes_eq name e.0.items) (Some (opening_of e.1))) (opening_found name es)

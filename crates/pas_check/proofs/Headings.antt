@@ -40,10 +40,10 @@ module _ (v : Sight) (r : Routine) (later : Option Block) (u w : Sight) (names :
           → HeadingMay v r later (Ok (headed (outside s.0) (record { formals = s.1; result = shown }), opening v r s shown)) → HeadingMay v r later (Ok (e, record { level = at_level; function = (out-Routine r).function; names = block; result = f }))
       ends_as result shown is ends gives h =
           let sights : headed (outside s.0) (record { formals = s.1; result = shown }) ≡ e =
-              ap (λ (o : Option Variable). headed (outside s.0) (record { formals = s.1; result = o })) is ∙ ap (λ (y : Sight). headed y (record { formals = s.1; result = result })) (sym out) ∙ sym ends in
+          ap (λ (o : Option Variable). headed (outside s.0) (record { formals = s.1; result = o })) is ∙ ap (λ (y : Sight). headed y (record { formals = s.1; result = result })) (sym out) ∙ sym ends in
           let levels : v.level + 1 ≡ at_level = sym (at ∙ deep) in
           let functions : function_of (length v.headings) (out-Routine r).name.start shown ≡ f =
-              ap (function_of (length v.headings) (out-Routine r).name.start) is ∙ ap (λ (n : ℕ). function_of n (out-Routine r).name.start result) (sym first) ∙ sym gives in
+          ap (function_of (length v.headings) (out-Routine r).name.start) is ∙ ap (λ (n : ℕ). function_of n (out-Routine r).name.start result) (sym first) ∙ sym gives in
           subst (λ (p : Sight × Opening). HeadingMay v r later (Ok p)) (λ i. (sights i, record { level = levels i; function = (out-Routine r).function; names = sym inner i; result = functions i })) h
 
       pub heading_whole : (result : Option Variable) → result_read x (out-Routine r).result ≡ Ok (option_map (λ (y : Variable). y.of_type) result)

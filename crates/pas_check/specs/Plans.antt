@@ -24,7 +24,7 @@ block_at name es = option_map block_by (lookup (λ (k : Vec ℕ Global). bytes_e
 abbrev pub block_given : Bodies → Name → Bool → Option Block
 block_given b name function = if function then block_at name b.functions.entries else block_at name b.procedures.entries
 
--- these routines are those that were read
+-- what is kept is that of these routines, the last ones of a block
 pub record ArePlanned (text : List ℕ) (bodies : Bodies) (plans : Plans) (routines : List Routine) : Type 0 where
   pub given : (name : Name) (function : Bool) → block_given bodies name function ≡ later_block text name function routines
   pub later : reverse (map later_of plans.list.items) ≡ map (λ (p : Routine × Option Block). p.1) (planned text routines)
