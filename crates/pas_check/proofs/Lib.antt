@@ -1,3 +1,4 @@
+pub mod ByName
 pub mod Constants
 pub mod Declarations
 pub mod Declared
@@ -7,9 +8,10 @@ pub mod Headings
 pub mod Loops
 pub mod Noted
 pub mod Passing
+pub mod Plans
 pub mod Reaching
-pub mod ReachingMarks
 pub mod ReachingLaw
+pub mod ReachingMarks
 pub mod ReachingNotes
 pub mod Scopes
 pub mod Statements

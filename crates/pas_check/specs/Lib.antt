@@ -12,6 +12,7 @@ pub mod Labels
 pub mod Names
 pub mod Outcome
 pub mod Placing
+pub mod Plans
 pub mod Routine
 pub mod Rules
 pub mod Sight

@@ -1,3 +1,5 @@
+ghost use Rattle.std.specs.Prelude.{◌≡◌};
+
 use pas_program::{Routine, Statement, VarKind};
 use px_base::Span;
 use sqlite_items::Items;

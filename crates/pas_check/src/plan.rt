@@ -1,10 +1,15 @@
 //! What a block declares, before its walk begins.
 
-ghost use Rattle.std.specs.Prelude.{◌≡◌, IfErr, IfOk, OnOk, flat_map, map, reverse};
+ghost use Rattle.std.specs.Prelude.{◌≡◌, ◌&&◌, ◌++◌, ◌∷◌, [], Bool, IfErr, IfOk, List, None, OnOk, Some, flat_map, if◌then◌else◌, is_some, map, reverse};
+ghost use Rattle.std.specs.Bool.{beq};
+ghost use Rattle.std.specs.Option.{option_map};
+ghost use Rattle.std.specs.Str.{bytes_eq};
+ghost use Rattle.pas_tree.specs.declared.block.Routine.{Routine};
 ghost use Rattle.pas_check.specs.Block.{const_name, names_in, routine_name, section_names, type_name, var_names};
 ghost use Rattle.pas_check.specs.Blocks.{bodies_given, lacking_by, later_of, planned};
-ghost use Rattle.pas_check.specs.Names.{name_at, noted, noted_all};
+ghost use Rattle.pas_check.specs.Names.{Name, name_at, noted, noted_all};
 ghost use Rattle.pas_check.specs.Outcome.{IsMemory};
+ghost use Rattle.pas_check.specs.Plans.{ArePlanned, block_at, block_by, block_given};
 
 use crate::fault::Fault;
 use crate::scope::Scope;
@@ -47,20 +52,23 @@ struct Body<'b> {
 }
 
 impl<'b> Bodies<'b> {
-    fn new(alloc: Global) -> Bodies<'b> {
+    fn new(alloc: Global) -> Bodies<'b>
+        ensures { (name : Name) → (function : Bool) → block_given result name function ≡ None }
+    {
         Bodies {
             procedures: IndexMap::new(alloc),
             functions: IndexMap::new(alloc),
         }
     }
 
-    fn get(&self, name: &[u8], function: bool) -> Option<Body<'b>> {
-        let bodies = if function {
-            &self.functions
+    fn get(&self, name: &[u8], function: bool) -> Option<Body<'b>>
+        ensures { option_map block_by result ≡ block_given self.now name.now function }
+    {
+        if function {
+            self.functions.get(name).copied()
         } else {
-            &self.procedures
-        };
-        bodies.get(name).copied()
+            self.procedures.get(name).copied()
+        }
     }
 
     fn set(
@@ -69,16 +77,28 @@ impl<'b> Bodies<'b> {
         name: &[u8],
         function: bool,
         body: Body<'b>,
-    ) -> Result<(), AllocError> {
-        let key = Vec::from_slice(alloc, name)?;
-        let bodies = if function {
-            &mut self.functions
+    ) -> Result<(), AllocError>
+        ensures { OnOk result ((other : Name) → (word : Bool) → block_given self.new other word ≡ (if bytes_eq other name.now && beq word function then Some (block_by body.entry) else block_given self.old other word)) }
+    {
+        if function {
+            set_body(&mut self.functions, alloc, name, body)
         } else {
-            &mut self.procedures
-        };
-        bodies.insert(key, body)?;
-        Ok(())
+            set_body(&mut self.procedures, alloc, name, body)
+        }
     }
+}
+
+fn set_body<'b>(
+    bodies: &mut IndexMap<Vec<u8>, Body<'b>>,
+    alloc: Global,
+    name: &[u8],
+    body: Body<'b>,
+) -> Result<(), AllocError>
+    ensures { OnOk result ((other : Name) → block_at other bodies.new.entries ≡ (if bytes_eq other name.now then Some (block_by body.entry) else block_at other bodies.old.entries)) }
+{
+    let key = Vec::from_slice(alloc, name)?;
+    bodies.insert(key, body)?;
+    Ok(())
 }
 
 /// How many routines have their statement parts inside a block, without the block's own.
@@ -122,9 +142,32 @@ fn numbers(alloc: Global, first: u32, routines: &[Routine]) -> Result<Vec<u32>, 
 }
 
 impl<'b> Plans<'b> {
-    fn push(&mut self, plan: Plan<'b>) -> Result<(), AllocError> {
+    fn push(&mut self, plan: Plan<'b>) -> Result<(), AllocError>
+        ensures list { OnOk result (self.new.list.items ≡ self.old.list.items ++ plan.entry ∷ []) }
+        ensures lacking { self.new.lacking ≡ self.old.lacking }
+    {
         self.list.push(plan)?;
         Ok(())
+    }
+
+    /// A heading without a block, at a place, and the body that comes after it.
+    fn wait(&mut self, number: u32, at: u32, body: Option<Body<'b>>) -> Result<(), AllocError>
+        ensures later { OnOk result (map later_of self.new.list.items ≡ map later_of self.old.list.items ++ option_map block_by body.entry ∷ []) }
+        ensures lacking { OnOk result (self.new.lacking ≡ (if is_some body.entry then self.old.lacking else Some at)) }
+    {
+        match body {
+            Some(body) => self.push(Plan {
+                number: body.number,
+                later: Some(body.block),
+            }),
+            None => {
+                self.lacking = Some(at);
+                self.push(Plan {
+                    number,
+                    later: None,
+                })
+            }
+        }
     }
 }
 
@@ -159,34 +202,29 @@ impl<'t> Seen<'t> {
         number: u32,
         bodies: &mut Bodies<'b>,
         plans: &mut Plans<'b>,
-    ) -> Result<(), Fault> {
+    ) -> Result<(), Fault>
+        ensures value { (rest : List Routine) → ArePlanned self.now.text.now bodies.old plans.old rest → OnOk result (ArePlanned self.now.text.now bodies.new plans.new (routine.now ∷ rest)) }
+        ensures memory { IfErr result IsMemory }
+    {
         made.spell(self.text, routine.name)?;
         let name = made.lower.as_slice();
-        let plan = match &routine.body {
+        let function = routine.function;
+        match &routine.body {
             RoutineBody::Block(block) => {
                 bodies
-                    .set(self.alloc, name, routine.function, Body { number, block })
+                    .set(self.alloc, name, function, Body { number, block })
                     .map_err(Fault::Memory)?;
-                Plan {
-                    number,
-                    later: None,
-                }
-            }
-            RoutineBody::Word(_) => match bodies.get(name, routine.function) {
-                Some(body) => Plan {
-                    number: body.number,
-                    later: Some(body.block),
-                },
-                None => {
-                    plans.lacking = Some(routine.name.start);
-                    Plan {
+                plans
+                    .push(Plan {
                         number,
                         later: None,
-                    }
-                }
-            },
-        };
-        plans.push(plan).map_err(Fault::Memory)
+                    })
+                    .map_err(Fault::Memory)
+            }
+            RoutineBody::Word(_) => plans
+                .wait(number, routine.name.start, bodies.get(name, function))
+                .map_err(Fault::Memory),
+        }
     }
 }
 

@@ -1,6 +1,6 @@
 //! Headings that wait for their bodies.
 
-ghost use Rattle.std.specs.Prelude.{◌≡◌, None, OnOk, Some, is_some};
+ghost use Rattle.std.specs.Prelude.{◌≡◌, None, OnOk, Some, if◌then◌else◌, is_some};
 ghost use Rattle.std.specs.Option.{option_map};
 ghost use Rattle.pas_check.specs.Blocks.{nothing_waits, waiting_of, waits, with_word};
 ghost use Rattle.pas_check.specs.Headings.{opening_of};
