@@ -4,6 +4,7 @@ pub mod Declared
 pub mod Formals
 pub mod Found
 pub mod Headings
+pub mod Labels
 pub mod Loops
 pub mod Noted
 pub mod Passing
