@@ -1,6 +1,7 @@
 pub mod Constants
 pub mod Declarations
 pub mod Declared
+pub mod First
 pub mod Formals
 pub mod Found
 pub mod Headings
