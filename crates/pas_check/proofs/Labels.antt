@@ -1,5 +1,5 @@
 -- The labels of a block by their values.
-use Rattle.std.proofs.Common.{◌≡◌, ◌∙◌, ℕ, List, [], ◌∷◌, arith, length, hash_map_len, nat_eq, None, Ok, Err, ap, refl, subst, sym, true}
+use Rattle.std.proofs.Common.{◌≡◌, ◌∙◌, ℕ, List, [], ◌∷◌, arith, length, hash_map_len, nat_eq, Ok, Err, ap, refl, subst, true}
 use Rattle.std.specs.Map.{keys_of, lookup}
 use Rattle.indexmap.specs.IndexMap.{IsEmpty, get, keys}
 use Rattle.pas_tree.specs.declared.block.Block.{Block}

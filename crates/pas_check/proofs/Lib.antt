@@ -1,7 +1,6 @@
 pub mod Constants
 pub mod Declarations
 pub mod Declared
-pub mod First
 pub mod Formals
 pub mod Found
 pub mod Headings
@@ -13,6 +12,5 @@ pub mod Reaching
 pub mod ReachingMarks
 pub mod ReachingLaw
 pub mod ReachingNotes
-pub mod Scopes
 pub mod Statements
 pub mod Turns

@@ -293,10 +293,7 @@ pub fn labels_of(alloc: Global, block: &Block) -> Result<IndexMap<u32, LabelDecl
 }
 
 /// Takes note of the labels of a block at the statements of its statement part.
-fn place_labels(
-    labels: &mut IndexMap<u32, LabelDecl>,
-    body: &[Statement],
-) -> Result<(), AllocError>
+fn place_labels(labels: &mut IndexMap<u32, LabelDecl>, body: &[Statement]) -> Result<(), AllocError>
     ensures noted { OnOk result (Notes labels.old (sequence_marks body.now true) labels.new) }
 {
     if labels.is_empty() {
