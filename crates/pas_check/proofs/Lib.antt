@@ -5,6 +5,7 @@ pub mod Declared
 pub mod Formals
 pub mod Found
 pub mod Headings
+pub mod Labels
 pub mod Loops
 pub mod Noted
 pub mod Passing
@@ -13,7 +14,6 @@ pub mod Reaching
 pub mod ReachingLaw
 pub mod ReachingMarks
 pub mod ReachingNotes
-pub mod Scopes
 pub mod Statements
 pub mod Turns
 pub mod Writes

@@ -8,6 +8,7 @@ use Rattle.std.specs.declared.alloc.Global.{Global}
 use Rattle.std.specs.declared.vec.Vec.{Vec}
 use Rattle.indexmap.specs.IndexMap.{get}
 use Rattle.px_base.specs.declared.place.Span.{Span}
+use Rattle.pas_program.specs.declared.type_def.TypeDef.{TypeDef}
 use Rattle.pas_program.specs.declared.type_def.TypeDef.TheVariants.{Scalar}
 use Rattle.pas_program.specs.Types.{maxint}
 use Rattle.pas_tree.specs.declared.block.Block.{Block}
@@ -246,6 +247,9 @@ required =
     ∷ (codes "read", means.Transput transput.Read) ∷ (codes "readln", means.Transput transput.Readln)
     ∷ (codes "write", means.Transput transput.Write) ∷ (codes "writeln", means.Transput transput.Writeln) ∷ []
 
+abbrev pub required_types : List TypeDef
+required_types = Scalar false (pos 0 -ℤ pos maxint) (pos maxint) ∷ Scalar true (pos 0) (pos 1) ∷ []
+
 -- they are declared in a block around the program's
 abbrev pub all_ended : List (Name × Meaning) → Names → Names
 all_ended [] names = names
@@ -257,7 +261,7 @@ at_first text l = record {
   text = text;
   blocks = all_ended required [] ∷ [];
   labels = l ∷ [];
-  types = Scalar false (pos 0 -ℤ pos maxint) (pos maxint) ∷ Scalar true (pos 0) (pos 1) ∷ [];
+  types = required_types;
   headings = [];
   level = 0;
   asserting = false;

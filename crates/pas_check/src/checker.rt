@@ -1,7 +1,8 @@
-ghost use Rattle.std.specs.Prelude.{◌≡◌, [], IfErr, IfOk, length, map};
-ghost use Rattle.pas_check.specs.Blocks.{HasNone, IsAtFirst, IsSound, IsSoundFault, all_ended, required};
+ghost use Rattle.std.specs.Prelude.{◌≡◌, [], IfErr, IfOk, length, map, true};
+ghost use Rattle.pas_check.specs.Blocks.{HasNone, IsAtFirst, IsSound, IsSoundFault, all_ended, at_first, required};
 ghost use Rattle.pas_check.specs.Fault.{IsWithin};
-ghost use Rattle.pas_check.specs.Labels.{labelled};
+ghost use Rattle.pas_check.specs.Headings.{inside};
+ghost use Rattle.pas_check.specs.Labels.{Labelled, labelled};
 ghost use Rattle.pas_check.specs.Outcome.{IsMemory};
 ghost use Rattle.pas_check.specs.Sight.{sight};
 ghost use Rattle.pas_program.specs.Checked.{tables};
@@ -11,7 +12,7 @@ use crate::fault::{CheckFault, Fault};
 use crate::frame::Frame;
 use crate::meaning::{Meaning, Required, Transput, Value};
 use crate::plan::count_bodies;
-use crate::scope::Scope;
+use crate::scope::{Names, Scope};
 use crate::seen::{Made, Seen};
 use crate::types::{BOOLEAN, INTEGER, Types};
 use indexmap::IndexMap;
@@ -59,6 +60,42 @@ fn checked(alloc: Global, text: &[u8], tree: &Tree) -> Result<Program, Fault>
     checker.into_program()
 }
 
+impl<'t> Seen<'t> {
+    /// What is seen outside all blocks.
+    #[tactic(auto, unfolding(crate::specs::Sight::sight))]
+    fn new(alloc: Global, text: &'t [u8]) -> Result<Seen<'t>, Fault>
+        ensures first { IfOk result (λ s. (l : Labelled) → inside (sight s) (all_ended required []) l ≡ at_first text.now l) }
+        ensures memory { IfErr result IsMemory }
+    {
+        Ok(Seen {
+            alloc,
+            text,
+            scopes: Vec::new(alloc),
+            types: Types::new(alloc)?,
+            heads: Vec::new(alloc),
+            level: 0,
+            asserting: false,
+            looping: IndexMap::new(alloc),
+            threatened: IndexMap::new(alloc),
+            assigned: IndexMap::new(alloc),
+        })
+    }
+}
+
+impl Made {
+    fn new(alloc: Global, frame: Frame) -> Made {
+        Made {
+            vars: Items::new(alloc),
+            routines: Items::new(alloc),
+            asserts: Items::new(alloc),
+            frame,
+            threats: Vec::new(alloc),
+            assigned: Vec::new(alloc),
+            lower: Vec::new(alloc),
+        }
+    }
+}
+
 impl<'t> Checker<'t> {
     fn new(alloc: Global, text: &'t [u8], tree: &Tree) -> Result<Checker<'t>, Fault>
         ensures first { IfOk result (λ c. IsAtFirst text.now (sight c.seen)) }
@@ -67,30 +104,13 @@ impl<'t> Checker<'t> {
         let number = count_bodies(&tree.block);
         let frame = Frame::new(alloc, tree.name, number, None, 0, Items::new(alloc), None);
         let mut checker = Checker {
-            seen: Seen {
-                alloc,
-                text,
-                scopes: Vec::new(alloc),
-                types: Types::new(alloc)?,
-                heads: Vec::new(alloc),
-                level: 0,
-                asserting: false,
-                looping: IndexMap::new(alloc),
-                threatened: IndexMap::new(alloc),
-                assigned: IndexMap::new(alloc),
-            },
-            made: Made {
-                vars: Items::new(alloc),
-                routines: Items::new(alloc),
-                asserts: Items::new(alloc),
-                frame,
-                threats: Vec::new(alloc),
-                assigned: Vec::new(alloc),
-                lower: Vec::new(alloc),
-            },
+            seen: Seen::new(alloc, text)?,
+            made: Made::new(alloc, frame),
         };
-        let outermost = outermost(alloc, number).map_err(Fault::Memory)?;
-        checker.push_scope(outermost)?;
+        match outermost(alloc, number) {
+            Ok(outermost) => checker.push_scope(outermost)?,
+            Err(error) => return Err(Fault::Memory(error)),
+        }
         Ok(checker)
     }
 
@@ -110,21 +130,28 @@ impl<'t> Checker<'t> {
             asserts,
             ..
         } = made;
-        let made = program_of(alloc, types, vars, routines, asserts).map_err(Fault::Memory)?;
-        made.ok_or(Fault::Memory(AllocError))
+        match program_of(alloc, types, vars, routines, asserts) {
+            Ok(Some(program)) => Ok(program),
+            Ok(None) => Err(Fault::Memory(AllocError)),
+            Err(error) => Err(Fault::Memory(error)),
+        }
     }
+}
+
+/// A constant of the type `Boolean`.
+fn truth(value: i32) -> Meaning
+    ensures { result ≡ Meaning.Constant (record { boolean = true; value = value }) }
+{
+    Meaning::Constant(Value {
+        boolean: true,
+        value,
+    })
 }
 
 /// What every program may use, with what it stands for (ISO 7185, 6.4.2.2, 6.6.5 and 6.6.6).
 fn required_names() -> [(&'static str, Meaning); 15]
     ensures { map (λ n. (n.0.now, n.1)) result ≡ required }
 {
-    let truth = |value: i32| {
-        Meaning::Constant(Value {
-            boolean: true,
-            value,
-        })
-    };
     let maxint = Value {
         boolean: false,
         value: i32::MAX,
@@ -153,9 +180,14 @@ fn outermost(alloc: Global, routine: u32) -> Result<Scope, AllocError>
     ensures names { IfOk result (λ s. s.names ≡ all_ended required []) }
     ensures none { IfOk result (λ s. HasNone (labelled s)) }
 {
-    let mut scope = Scope::new(alloc, routine);
+    let mut names = Names::new(alloc);
     for (name, meaning) in required_names() {
-        scope.names.end(alloc, name.as_bytes(), 0, meaning)?;
+        names.end(alloc, name.as_bytes(), 0, meaning)?;
     }
-    Ok(scope)
+    Ok(Scope {
+        routine,
+        function: None,
+        names,
+        labels: IndexMap::new(alloc),
+    })
 }

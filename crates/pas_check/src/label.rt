@@ -288,10 +288,19 @@ pub fn labels_of(alloc: Global, block: &Block) -> Result<IndexMap<u32, LabelDecl
 {
     let mut labels = IndexMap::new(alloc);
     declare_labels(&mut labels, block.labels.as_slice())?;
-    if !labels.is_empty() {
-        let _ = place_sequence(&mut labels, block.body.as_slice(), true).map_err(Fault::Memory)?;
-    }
+    place_labels(&mut labels, block.body.as_slice()).map_err(Fault::Memory)?;
     Ok(labels)
+}
+
+/// Takes note of the labels of a block at the statements of its statement part.
+fn place_labels(labels: &mut IndexMap<u32, LabelDecl>, body: &[Statement]) -> Result<(), AllocError>
+    ensures noted { OnOk result (Notes labels.old (sequence_marks body.now true) labels.new) }
+{
+    if labels.is_empty() {
+        return Ok(());
+    }
+    place_sequence(labels, body, true)?;
+    Ok(())
 }
 
 impl Scope {

@@ -3,6 +3,7 @@
 ghost use Rattle.std.specs.Prelude.{◌≡◌, ◌<◌, ◌≤◌, ◌^◌, ◌*◌, ◌++◌, ◌∷◌, [], IfErr, IfOk, OnOk, length, slice_get};
 ghost use Rattle.pas_program.specs.Types as types;
 ghost use Rattle.pas_program.specs.Types.{layout};
+ghost use Rattle.pas_check.specs.Blocks.{required_types};
 ghost use Rattle.pas_check.specs.Declarations.{array_of, range_of};
 ghost use Rattle.pas_check.specs.Outcome.{Gives, IsMemory};
 ghost use Rattle.pas_check.specs.Sight.{host_of, parts_of};
@@ -30,7 +31,10 @@ const MOST_ELEMENTS: u64 = 1_000_000;
 
 impl Types {
     /// `integer` and `Boolean`.
-    pub fn new(alloc: Global) -> Result<Types, Fault> {
+    pub fn new(alloc: Global) -> Result<Types, Fault>
+        ensures list { IfOk result (λ t. t.list.list ≡ required_types) }
+        ensures memory { IfErr result IsMemory }
+    {
         let mut types = Types {
             list: TypeList::new(alloc),
         };
