@@ -1,3 +1,4 @@
+pub mod Blocks
 pub mod Constants
 pub mod Declarations
 pub mod Declared
@@ -11,6 +12,7 @@ pub mod Reaching
 pub mod ReachingMarks
 pub mod ReachingLaw
 pub mod ReachingNotes
+pub mod Routines
 pub mod Scopes
 pub mod Statements
 pub mod Turns
