@@ -78,11 +78,11 @@ forward_is text word bs b spelled test = ap (λ s. bytes_eq (str_to_ascii_lowerc
 
 module _ (s : Standing) (r : Routine) (word : Span) (h : Sight × Opening) where
   pub word_refused : (f : Fault) → is_forward h.0.text word ≡ false → f ≡ Broken rule.Kind word.start → forwarded s r word h ≡ Err f
-  word_refused f no is = ap (λ b. unless {A = Standing} (not b) rule.Kind word.start (Ok (standing h.0 (waits s.waiting (name_at h.0.text (out-Routine r).name) (Some h.1))))) no ∙ ap Err (sym is)
+  word_refused f other is = ap (λ b. unless {A = Standing} (not b) rule.Kind word.start (Ok (standing h.0 (waits s.waiting (name_at h.0.text (out-Routine r).name) (Some h.1))))) other ∙ ap Err (sym is)
 
   pub word_waits : (w : Name → Option Opening) (name : Name) → is_forward h.0.text word ≡ true → name ≡ name_at h.0.text (out-Routine r).name → w ≡ waits s.waiting name (Some h.1) → forwarded s r word h ≡ Ok (standing h.0 w)
-  word_waits w name yes spelled is =
-      ap (λ b. unless {A = Standing} (not b) rule.Kind word.start (Ok (standing h.0 (waits s.waiting (name_at h.0.text (out-Routine r).name) (Some h.1))))) yes
+  word_waits w name right spelled is =
+      ap (λ b. unless {A = Standing} (not b) rule.Kind word.start (Ok (standing h.0 (waits s.waiting (name_at h.0.text (out-Routine r).name) (Some h.1))))) right
       ∙ ap (λ n. Ok (standing h.0 (waits s.waiting n (Some h.1)))) (sym spelled) ∙ ap (λ u. Ok (standing h.0 u)) (sym is)
 
 -- ---- a heading with its block

@@ -1,4 +1,4 @@
-use Rattle.std.proofs.Common.{Err, Ok, rules, sym, ◌∙◌}
+use Rattle.std.proofs.Common.{Err, Ok, arith, rules, sym, ◌∙◌}
 use Rattle.std.specs.Option.{option_copied}
 use Rattle.pas_tree.specs.declared.block.RoutineBody.TheViews.{out-Block}
 use Rattle.pas_check.specs.Blocks.{BlockMay, ForwardMay, RoutineMay, RoutinesMay, Standing, block_ended, in_block, is_word, not_begun, not_opened, planned, standing, waiting_of, whole_block}
@@ -50,7 +50,7 @@ routine-returns-in_ok-opened-in-Block t c = record {
 
 pub routine_part-returns-in_default : goal.routine_part-returns-in_default
 routine_part-returns-in_default t c = record {
-  value = λ same. absurd (no_plan (sight c.args.self.now.seen).text c.args.routines.now c.loop-routine.routine-index c.routine-item.result c.loop-routine-test.true c.routine-item.is c.loop-routine.plans.items ? (c.loop-routine.invariant same).0);
+  value = λ same. absurd (no_plan (sight c.args.self.now.seen).text c.args.routines.now c.loop-routine.routine-index c.routine-item.result c.loop-routine-test.true c.routine-item.is c.loop-routine.plans.items (omega (arith, c.loop-routine.plans.ok.0, c.in_default.ensures.cases.0)) (c.loop-routine.invariant same).0);
 }
 
 pub routine_part-returns-in_err-routine : goal.routine_part-returns-in_err-routine
