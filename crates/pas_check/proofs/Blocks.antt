@@ -1,5 +1,5 @@
 -- Blocks, from their beginning to their end.
-use Rattle.std.proofs.Common.{◌≡◌, ℕ, List, Option, Ok, Err, sym, ap, subst, ◌∙◌}
+use Rattle.std.proofs.Common.{◌≡◌, ℕ, false, List, [], Option, None, Ok, Err, sym, ap, subst, ◌∙◌}
 use Rattle.pas_tree.specs.declared.block.Block.{Block}
 use Rattle.pas_tree.specs.declared.block.ConstDecl.{ConstDecl}
 use Rattle.pas_tree.specs.declared.block.Routine.{Routine}
@@ -9,11 +9,12 @@ use Rattle.pas_tree.specs.declared.block.VarDecl.{VarDecl}
 use Rattle.pas_tree.specs.declared.statement.Statement.{Statement}
 use Rattle.pas_check.specs.declared.fault.Fault.{Fault}
 use Rattle.pas_check.specs.declared.heading.Function.{Function}
-use Rattle.pas_check.specs.Blocks.{BeginsMay, BlockMay, LabelsMay, PartsMay, RoutinesMay, Standing, block_ended, end_allowed, entered, in_consts, in_parts, in_routines, in_types, in_vars, left, nothing_waits, own_block, planned, standing, statements_ended, to_end}
+use Rattle.pas_check.specs.Block.{names_in}
+use Rattle.pas_check.specs.Blocks.{BeginsMay, BlockMay, LabelsMay, PartsMay, RoutinesMay, Standing, block_ended, end_allowed, entered, in_consts, in_parts, in_routines, in_types, in_vars, left, nothing_waits, own_block, planned, program_opening, standing, statements_ended, to_end}
 use Rattle.pas_check.specs.Declarations.{InTurn, VarMay, const_declared, led_by, type_declared}
 use Rattle.pas_check.specs.Headings.{Opening, outside}
 use Rattle.pas_check.specs.Labels.{Labels}
-use Rattle.pas_check.specs.Names.{Name}
+use Rattle.pas_check.specs.Names.{Name, Names, noted_all}
 use Rattle.pas_check.specs.Outcome.{Gives, Meets, Outcome, ◌>>=◌}
 use Rattle.pas_check.specs.Sight.{Sight}
 
@@ -62,6 +63,13 @@ module _ (v u : Sight) (p : Opening) (b : Block) (begins : BeginsMay v p b (Ok u
 
   pub block_to_end : (s : Standing) (o : Outcome Sight) → RoutinesMay (standing u waiting) (planned u.text routines) (Ok s) → block_ended v p b u.text s.seen ≡ o → BlockMay v p b o
   block_to_end s o now ends = to_end begins (at_first (Ok s) now) ends
+
+-- the block of a program
+pub program_may : (v : Sight) (b : Block) (level : ℕ) (names : Names) (o : Outcome Sight) → level ≡ 0 → names ≡ noted_all v.text (names_in b) [] → BlockMay v (record { level = level; function = false; names = names; result = None }) b o
+    → BlockMay v (program_opening v.text b) b o
+program_may v b level names o outermost own now =
+    subst (λ ns. BlockMay v (record { level = 0; function = false; names = ns; result = None }) b o) own
+    (subst (λ n. BlockMay v (record { level = n; function = false; names = names; result = None }) b o) outermost now)
 
 -- ---- the end of a block
 

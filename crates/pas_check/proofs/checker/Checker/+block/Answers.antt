@@ -1,4 +1,4 @@
-use Rattle.std.proofs.Common.{Err, Ok, arith, rules, sym, ◌∙◌}
+use Rattle.std.proofs.Common.{Err, Ok, arith, refl, rules, sym, ◌∙◌}
 use Rattle.std.specs.Option.{option_copied}
 use Rattle.pas_tree.specs.declared.block.RoutineBody.TheViews.{out-Block}
 use Rattle.pas_check.specs.Blocks.{BlockMay, ForwardMay, RoutineMay, RoutinesMay, Standing, block_ended, in_block, is_word, not_begun, not_opened, planned, standing, waiting_of, whole_block}
@@ -27,7 +27,7 @@ block-returns t c =
     let s = standing (sight c.routine_part.new.self.seen) (waiting_of c.routine_part.new.waiting) in record {
       value = gives_all _ (block_ended v (opening_of c.args.opened) c.args.block.now text s.seen) (BlockMay v (opening_of c.args.opened) c.args.block.now) c.end.result
           (λ o is. block_to_end (sight c.args.self.now.seen) (sight c.begin.new.self.seen) (opening_of c.args.opened) c.args.block.now c.in_ok-outer.ensures.value c.as_slice-2.result.now c.as_slice-2.ensures (waiting_of c.new-waiting.result) c.new-waiting.ensures s o (c.in_ok-routine_part.ensures.value (plans_theirs c.begin.new.self.seen c.as_slice.result.now c.as_slice-2.result.now (c.as_slice.ensures ∙ sym c.as_slice-2.ensures) c.in_ok-plans.plans.list.items c.in_ok-plans.ensures.later)) is)
-          (c.end.ensures.value v (opening_of c.args.opened) text (sym c.in_ok-outer.ensures.level) (λ i. c.args.opened.result) (lacking_theirs c.begin.new.self.seen c.as_slice.result.now (out-Block c.args.block.now).routines c.as_slice.ensures c.in_ok-plans.plans.lacking c.in_ok-plans.ensures.lacking));
+          (c.end.ensures.value v (opening_of c.args.opened) text (sym c.in_ok-outer.ensures.level) refl (lacking_theirs c.begin.new.self.seen c.as_slice.result.now (out-Block c.args.block.now).routines c.as_slice.ensures c.in_ok-plans.plans.lacking c.in_ok-plans.ensures.lacking));
     }
 
 pub routine-returns-in_err-opened-in-Block : goal.routine-returns-in_err-opened-in-Block
