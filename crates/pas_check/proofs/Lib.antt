@@ -1,3 +1,4 @@
+pub mod Blocks
 pub mod ByName
 pub mod Constants
 pub mod Declarations
@@ -14,6 +15,8 @@ pub mod Reaching
 pub mod ReachingLaw
 pub mod ReachingMarks
 pub mod ReachingNotes
+pub mod Routines
+pub mod Scopes
 pub mod Statements
 pub mod Turns
 pub mod Writes

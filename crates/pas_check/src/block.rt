@@ -142,7 +142,8 @@ impl<'t> Checker<'t> {
     {
         let body = self.statement_part(block.body.as_slice())?;
         self.end_allowed(block, function, lacking)?;
-        self.leave(outer, statement_of(self.seen.alloc, block, body))
+        self.leave(outer, statement_of(self.seen.alloc, block, body))?;
+        Ok(())
     }
 
     /// The statement part of a block.

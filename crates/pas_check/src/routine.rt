@@ -119,7 +119,7 @@ impl<'t> Checker<'t> {
         plan: Plan<'_>,
         waiting: &mut Waiting,
     ) -> Result<(), Fault>
-        ensures value { Meets (λ u. standing (sight self.new.seen) (waiting_of waiting.new)) (RoutineMay (standing (sight self.old.seen) (waiting_of waiting.old)) routine.now (option_copied plan.later)) result }
+        ensures value { Meets (λ u. standing (sight self.new.seen) (waiting_of waiting.new)) (RoutineMay (standing (sight self.old.seen) (waiting_of waiting.old)) routine.now (option_copied plan.entry.later)) result }
     {
         match &routine.body {
             RoutineBody::Word(word) => self.forward(routine, *word, plan, waiting),
@@ -138,16 +138,17 @@ impl<'t> Checker<'t> {
         plan: Plan<'_>,
         waiting: &mut Waiting,
     ) -> Result<(), Fault>
-        ensures value { Meets (λ u. standing (sight self.new.seen) (waiting_of waiting.new)) (ForwardMay (standing (sight self.old.seen) (waiting_of waiting.old)) routine.now word (option_copied plan.later)) result }
+        ensures value { Meets (λ u. standing (sight self.new.seen) (waiting_of waiting.new)) (ForwardMay (standing (sight self.old.seen) (waiting_of waiting.old)) routine.now word (option_copied plan.entry.later)) result }
     {
         let opened = self.heading(routine, plan.number, plan.later)?;
         if !self.seen.spelling(word).eq_ignore_ascii_case(b"forward") {
             return Err(Rule::Kind.broken(word.start));
         }
         self.made.spell(self.seen.text, routine.name)?;
-        waiting
-            .add(self.seen.alloc, self.made.lower.as_slice(), opened)
-            .map_err(Fault::Memory)
+        match waiting.add(self.seen.alloc, self.made.lower.as_slice(), opened) {
+            Ok(()) => Ok(()),
+            Err(error) => Err(Fault::Memory(error)),
+        }
     }
 
     /// A heading with its block, up to the block: the body of one that waits, or a heading of its own.

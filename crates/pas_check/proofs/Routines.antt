@@ -1,0 +1,109 @@
+-- Headings with their blocks, one after the other.
+use Rattle.std.proofs.Common.{◌≡◌, ℕ, ◌+◌, ◌<◌, ◌≤◌, ◌↔◌, Bool, true, false, List, [], ◌∷◌, ◌++◌, length, arith, get_or, drop, map, reverse, codes, Option, Some, None, Ok, Err, refl, sym, ap, subst, ◌∙◌}
+use Rattle.std.specs.Prelude.{not}
+use Rattle.std.specs.Str.{bytes_eq, str_to_ascii_lowercase}
+use Rattle.std.proofs.lemmas.Slice.Eq.{bytes_eq-Decides}
+use Rattle.px_base.specs.declared.place.Span.{Span}
+use Rattle.std.proofs.lemmas.List.{drop_all}
+use Rattle.pas_tree.specs.declared.block.Block.{Block}
+use Rattle.pas_tree.specs.declared.block.Routine.{Routine}
+use Rattle.pas_tree.specs.declared.block.RoutineBody.TheViews.{out-Routine}
+use Rattle.pas_check.specs.declared.fault.Fault.{Fault}
+use Rattle.pas_check.specs.declared.fault.Fault.TheVariants.{Broken}
+use Rattle.pas_check.specs.declared.fault.Rule.TheVariants as rule
+use Rattle.pas_check.specs.declared.plan.Plan.{Plan}
+use Rattle.pas_check.specs.declared.seen.Seen.{Seen}
+use Rattle.pas_check.specs.Blocks.{OpenMay, RoutineMay, RoutinesMay, Standing, awaited, awaited_block, bodies_given, forwarded, goes_on, in_heading, is_forward, lacking_by, later_of, no_more, opened, planned, standing, stops_in, waits, waits_for, with_word}
+use Rattle.pas_check.specs.Headings.{HeadingMay, Opening}
+use Rattle.pas_check.specs.Names.{Name, name_at, spelling}
+use Rattle.pas_check.specs.Outcome.{Outcome, ◌>>=◌, unless}
+use Rattle.pas_check.specs.Routine.{repeated_heading}
+use Rattle.pas_check.specs.Sight.{Sight, sight}
+use Rattle.pas_check.proofs.Declarations.{last_is}
+use Rattle.pas_check.proofs.Passing.{drop_next}
+
+-- the plans of these headings, from the last to the first
+abbrev pub AreTheirs : List ℕ → List Plan → List Routine → Type 0
+AreTheirs text plans routines = map later_of (reverse plans) ≡ map (λ (p : Routine × Option Block). p.1) (planned text routines)
+
+module _ (text : List ℕ) (routines : List Routine) (k : ℕ) where
+  pub routines_end : (s : Standing) → length routines ≤ k → RoutinesMay s (planned text (drop k routines)) (Ok s)
+  routines_end s h = subst (λ rs. RoutinesMay s (planned text rs) (Ok s)) (sym (drop_all k routines h)) no_more
+
+  module _ (r : Routine) (h : k < length routines) (e : r ≡ get_or routines k r) where
+    planned_next : planned text (drop k routines) ≡ (r, awaited_block text r (drop (k + 1) routines)) ∷ planned text (drop (k + 1) routines)
+    planned_next = ap (planned text) (drop_next routines k r h e)
+
+    -- there is a plan for it
+    pub no_plan : (plans : List Plan) → length plans ≡ 0 → AreTheirs text plans (drop k routines) → ⊥
+    no_plan [] none same = cc (same ∙ ap (map (λ (q : Routine × Option Block). q.1)) planned_next)
+    no_plan (p ∷ plans) none same = omega arith
+
+    module _ (plans rest : List Plan) (p : Plan) (popped : plans ≡ rest ++ p ∷ []) (same : AreTheirs text plans (drop k routines)) where
+      both : later_of p ∷ map later_of (reverse rest) ≡ awaited_block text r (drop (k + 1) routines) ∷ map (λ (q : Routine × Option Block). q.1) (planned text (drop (k + 1) routines))
+      both = sym (ap (map later_of) (last_is plans rest p popped)) ∙ same ∙ ap (map (λ (q : Routine × Option Block). q.1)) planned_next
+
+      pub plans_go : AreTheirs text rest (drop (k + 1) routines)
+      plans_go = cc both
+
+      with_its : (s : Standing) (o : Outcome Standing) → RoutineMay s r (later_of p) o → RoutineMay s r (awaited_block text r (drop (k + 1) routines)) o
+      with_its s o now = let same : later_of p ≡ awaited_block text r (drop (k + 1) routines) = cc both in subst (λ (l : Option Block). RoutineMay s r l o) same now
+
+      pub routines_go : (s t : Standing) (o : Outcome Standing) → RoutineMay s r (later_of p) (Ok t) → RoutinesMay t (planned text (drop (k + 1) routines)) o → RoutinesMay s (planned text (drop k routines)) o
+      routines_go s t o now after = subst (λ ps. RoutinesMay s ps o) (sym planned_next) (goes_on (with_its s (Ok t) now) after)
+
+      pub routines_stop : (s : Standing) (f : Fault) → RoutineMay s r (later_of p) (Err f) → RoutinesMay s (planned text (drop k routines)) (Err f)
+      routines_stop s f now = subst (λ ps. RoutinesMay s ps (Err f)) (sym planned_next) (stops_in (with_its s (Err f) now))
+
+-- the same where the plans are made
+module _ (c : Seen) (routines others : List Routine) (same : routines ≡ others) where
+  pub plans_theirs : (plans : List Plan) → AreTheirs c.text.now plans routines → AreTheirs (sight c).text plans others
+  unfolding sight
+  plans_theirs plans h = subst (λ rs. AreTheirs c.text.now plans rs) same h
+
+  pub lacking_theirs : (lacking : Option ℕ) → lacking_by lacking ≡ bodies_given c.text.now routines → lacking_by lacking ≡ bodies_given (sight c).text others
+  unfolding sight
+  lacking_theirs lacking h = h ∙ ap (bodies_given c.text.now) same
+
+-- ---- a heading with a word
+
+-- the word in the place of a block
+pub forward_is : (text : List ℕ) (word : Span) (bs : List ℕ) (b : Bool) → bs ≡ spelling text word → b ≡ true ↔ str_to_ascii_lowercase bs ≡ codes "forward" → is_forward text word ≡ b
+forward_is text word bs b spelled test = ap (λ s. bytes_eq (str_to_ascii_lowercase s) (codes "forward")) (sym spelled) ∙ by b (bytes_eq (str_to_ascii_lowercase bs) (codes "forward")) test refl
+  where
+    by : (b r : Bool) → b ≡ true ↔ str_to_ascii_lowercase bs ≡ codes "forward" → bytes_eq (str_to_ascii_lowercase bs) (codes "forward") ≡ r → r ≡ b
+    by true r test is = sym is ∙ (bytes_eq-Decides (str_to_ascii_lowercase bs) (codes "forward")).1 (test.0 refl)
+    by false true test is = sym (test.1 ((bytes_eq-Decides (str_to_ascii_lowercase bs) (codes "forward")).0 is))
+    by false false test is = refl
+
+module _ (s : Standing) (r : Routine) (word : Span) (h : Sight × Opening) where
+  pub word_refused : (f : Fault) → is_forward h.0.text word ≡ false → f ≡ Broken rule.Kind word.start → forwarded s r word h ≡ Err f
+  word_refused f other is = ap (λ b. unless {A = Standing} (not b) rule.Kind word.start (Ok (standing h.0 (waits s.waiting (name_at h.0.text (out-Routine r).name) (Some h.1))))) other ∙ ap Err (sym is)
+
+  pub word_waits : (w : Name → Option Opening) (name : Name) → is_forward h.0.text word ≡ true → name ≡ name_at h.0.text (out-Routine r).name → w ≡ waits s.waiting name (Some h.1) → forwarded s r word h ≡ Ok (standing h.0 w)
+  word_waits w name right spelled is =
+      ap (λ b. unless {A = Standing} (not b) rule.Kind word.start (Ok (standing h.0 (waits s.waiting (name_at h.0.text (out-Routine r).name) (Some h.1))))) right
+      ∙ ap (λ n. Ok (standing h.0 (waits s.waiting n (Some h.1)))) (sym spelled) ∙ ap (λ u. Ok (standing h.0 u)) (sym is)
+
+-- ---- a heading with its block
+
+module _ (s : Standing) (r : Routine) (b : Block) (name : Name) (spelled : name ≡ name_at s.seen.text (out-Routine r).name) where
+  waits_by : (o : Option Opening) → o ≡ with_word (out-Routine r).function (s.waiting name) → waits_for s r ≡ o
+  waits_by o is = ap (λ n. with_word (out-Routine r).function (s.waiting n)) (sym spelled) ∙ sym is
+
+  module _ (p : Opening) (taken : Some p ≡ with_word (out-Routine r).function (s.waiting name)) where
+    pub repeated_fails : (f : Fault) → repeated_heading (out-Routine r) ≡ Err f → OpenMay s r b (Err f)
+    repeated_fails f is = awaited (waits_by (Some p) taken) (ap (λ (o : Outcome (Unit {0})). o >>= (λ done. Ok (standing s.seen (waits s.waiting (name_at s.seen.text (out-Routine r).name) None), p))) is)
+
+    pub repeated_opens : (w : Name → Option Opening) → repeated_heading (out-Routine r) ≡ Ok tt → w ≡ waits s.waiting name None → OpenMay s r b (Ok (standing s.seen w, p))
+    repeated_opens w is out =
+        awaited (waits_by (Some p) taken)
+        (ap (λ (o : Outcome (Unit {0})). o >>= (λ done. Ok (standing s.seen (waits s.waiting (name_at s.seen.text (out-Routine r).name) None), p))) is
+        ∙ ap (λ n. Ok (standing s.seen (waits s.waiting n None), p)) (sym spelled) ∙ ap (λ u. Ok (standing s.seen u, p)) (sym out))
+
+  module _ (none : None ≡ with_word (out-Routine r).function (s.waiting name)) where
+    pub heading_fails : (f : Fault) → HeadingMay s.seen r (Some b) (Err f) → OpenMay s r b (Err f)
+    heading_fails f now = in_heading (waits_by None none) now
+
+    pub heading_opens : (w : Name → Option Opening) (h : Sight × Opening) → w ≡ s.waiting → HeadingMay s.seen r (Some b) (Ok h) → OpenMay s r b (Ok (standing h.0 w, h.1))
+    heading_opens w h same now = subst (λ u. OpenMay s r b (Ok (standing h.0 u, h.1))) (sym same) (opened (waits_by None none) now)
