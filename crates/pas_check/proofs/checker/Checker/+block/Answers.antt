@@ -61,9 +61,10 @@ routine_part-returns-in_err-routine t c = record {
 }
 
 pub routine_part-loop-routine-preserved : goal.routine_part-loop-routine-preserved
-routine_part-loop-routine-preserved t c = λ same.
-    (plans_go (sight c.args.self.now.seen).text c.args.routines.now c.loop-routine.routine-index c.routine-item.result c.loop-routine-test.true c.routine-item.is c.loop-routine.plans.items c.pop.new.self.items c.in-Some.plan c.in-Some.ensures.items (c.loop-routine.invariant same).0,
-    λ o rest. (c.loop-routine.invariant same).1 o (routines_go (sight c.args.self.now.seen).text c.args.routines.now c.loop-routine.routine-index c.routine-item.result c.loop-routine-test.true c.routine-item.is c.loop-routine.plans.items c.pop.new.self.items c.in-Some.plan c.in-Some.ensures.items (c.loop-routine.invariant same).0 (standing (sight c.loop-routine.self.seen) (waiting_of c.loop-routine.waiting)) (standing (sight c.routine.new.self.seen) (waiting_of c.routine.new.waiting)) o c.in_ok-routine.ensures.value rest))
+routine_part-loop-routine-preserved t c = λ same. (
+  plans_go (sight c.args.self.now.seen).text c.args.routines.now c.loop-routine.routine-index c.routine-item.result c.loop-routine-test.true c.routine-item.is c.loop-routine.plans.items c.pop.new.self.items c.in-Some.plan c.in-Some.ensures.items (c.loop-routine.invariant same).0,
+  λ o rest. (c.loop-routine.invariant same).1 o (routines_go (sight c.args.self.now.seen).text c.args.routines.now c.loop-routine.routine-index c.routine-item.result c.loop-routine-test.true c.routine-item.is c.loop-routine.plans.items c.pop.new.self.items c.in-Some.plan c.in-Some.ensures.items (c.loop-routine.invariant same).0 (standing (sight c.loop-routine.self.seen) (waiting_of c.loop-routine.waiting)) (standing (sight c.routine.new.self.seen) (waiting_of c.routine.new.waiting)) o c.in_ok-routine.ensures.value rest),
+)
 
 pub routine_part-returns : goal.routine_part-returns
 routine_part-returns t c =
