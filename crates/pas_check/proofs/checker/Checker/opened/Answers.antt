@@ -1,4 +1,4 @@
-use Rattle.std.proofs.Common.{◌≡◌, ◌∙◌, Some, rules}
+use Rattle.std.proofs.Common.{◌∙◌, Some, rules}
 use Rattle.pas_check.specs.Blocks.{OpenMay, Standing, standing, waiting_of}
 use Rattle.pas_check.specs.Headings.{HeadingMay, Opening, opening_of}
 use Rattle.pas_check.specs.Sight.{sight}
