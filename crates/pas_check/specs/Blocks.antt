@@ -237,6 +237,10 @@ mutual
 
 -- ---- programs
 
+-- `integer` and `Boolean`, by their numbers
+abbrev pub required_types : List TypeDef
+required_types = Scalar false (pos 0 -ℤ pos maxint) (pos maxint) ∷ Scalar true (pos 0) (pos 1) ∷ []
+
 -- what every program may use
 abbrev pub required : List (Name × Meaning)
 required =
@@ -246,9 +250,6 @@ required =
     ∷ (codes "succ", means.Required function.Succ) ∷ (codes "pred", means.Required function.Pred) ∷ (codes "ord", means.Required function.Ord)
     ∷ (codes "read", means.Transput transput.Read) ∷ (codes "readln", means.Transput transput.Readln)
     ∷ (codes "write", means.Transput transput.Write) ∷ (codes "writeln", means.Transput transput.Writeln) ∷ []
-
-abbrev pub required_types : List TypeDef
-required_types = Scalar false (pos 0 -ℤ pos maxint) (pos maxint) ∷ Scalar true (pos 0) (pos 1) ∷ []
 
 -- they are declared in a block around the program's
 abbrev pub all_ended : List (Name × Meaning) → Names → Names

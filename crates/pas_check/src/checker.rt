@@ -83,6 +83,7 @@ impl<'t> Seen<'t> {
 }
 
 impl Made {
+    /// Nothing is made so far.
     fn new(alloc: Global, frame: Frame) -> Made {
         Made {
             vars: Items::new(alloc),
