@@ -16,7 +16,6 @@ pub mod ReachingLaw
 pub mod ReachingMarks
 pub mod ReachingNotes
 pub mod Routines
-pub mod Scopes
 pub mod Statements
 pub mod Turns
 pub mod Writes
