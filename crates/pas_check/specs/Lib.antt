@@ -1,3 +1,4 @@
+pub mod Accepted
 pub mod Block
 pub mod Blocks
 pub mod Constant

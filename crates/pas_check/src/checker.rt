@@ -1,4 +1,5 @@
-ghost use Rattle.std.specs.Prelude.{◌≡◌, [], IfErr, IfOk, length, map, true};
+ghost use Rattle.std.specs.Prelude.{◌≡◌, [], IfErr, IfOk, OnOk, length, map, true};
+ghost use Rattle.pas_check.specs.Accepted.{IsUnbroken};
 ghost use Rattle.pas_check.specs.Blocks.{HasNone, IsAtFirst, IsSound, IsSoundFault, all_ended, at_first, required};
 ghost use Rattle.pas_check.specs.Fault.{IsWithin};
 ghost use Rattle.pas_check.specs.Headings.{inside};
@@ -37,6 +38,7 @@ pub struct Checker<'t> {
 pub fn check(alloc: Global, text: &[u8], tree: &Tree) -> Result<Program, CheckFault>
     ensures fault { IfErr result (λ e. IsWithin (length text.now) e) }
     ensures sound { IfErr result (λ e. IsSound text.now tree.now e) }
+    ensures unbroken { OnOk result (IsUnbroken text.now tree.now) }
     ensures controls { IfOk result (λ p. ControlsAreLocal (tables p) p.routines) }
     ensures labels { IfOk result (λ p. LabelsStand p.routines) }
     ensures constants { IfOk result (λ p. ConstantsDiffer p.routines) }
@@ -50,6 +52,7 @@ pub fn check(alloc: Global, text: &[u8], tree: &Tree) -> Result<Program, CheckFa
 
 fn checked(alloc: Global, text: &[u8], tree: &Tree) -> Result<Program, Fault>
     ensures sound { IfErr result (λ e. IsSoundFault text.now tree.now e) }
+    ensures unbroken { OnOk result (IsUnbroken text.now tree.now) }
     ensures controls { IfOk result (λ p. ControlsAreLocal (tables p) p.routines) }
     ensures labels { IfOk result (λ p. LabelsStand p.routines) }
     ensures constants { IfOk result (λ p. ConstantsDiffer p.routines) }
