@@ -1,38 +1,34 @@
 //! Which action is to be done next, and what it does (ISO 7185, 6.8 and 6.9).
-ghost use Rattle.std.specs.Prelude.{◌≡◌, ℕ, suc, ◌^◌, ◌-◌, ◌<◌, ◌++◌, false, List, [], ◌∷◌, length, map, pos, slice_get, IfOk, IfSome, None, Ok, Some, true};
+ghost use Rattle.std.specs.Prelude.{◌≡◌, ℕ, suc, ◌^◌, ◌-◌, ◌<◌, ◌++◌, List, [], ◌∷◌, length, IfOk, IfSome, None, Ok, Some, true};
 ghost use Rattle.px_base.specs.declared.kind.Kind.TheVariants as kind;
-ghost use Rattle.pas_program.specs.declared.expr.Actual.TheViews.{out-Expr};
-ghost use Rattle.pas_program.specs.declared.statement.WriteValue.TheVariants as written;
 ghost use Rattle.arithmetic.specs.Numbers.{IsNumber};
 ghost use Rattle.pas_program.specs.Checked.{numbers_in, scope_in, tables};
-ghost use Rattle.pas_program.specs.Each.{each_access, each_expr, each_item};
+ghost use Rattle.pas_program.specs.Each.{each_access, each_expr};
 ghost use Rattle.pas_program.specs.Tables.{is_visible};
-ghost use Rattle.pas_program.specs.Typed.{copy_fits, hosted, hosted_by, is_of_host, is_target, item_fits, reached, type_of_var, unary_gives};
+ghost use Rattle.pas_program.specs.Typed.{copy_fits, hosted, is_of_host, is_target, reached, type_of_var};
 ghost use Rattle.pas_program.specs.Types.{is_scalar};
 ghost use Rattle.control_points.specs.Acts.{act_types_fit, each_act};
 ghost use Rattle.control_points.specs.Actions.{comes_before, in_order, slot_at, stepped};
 ghost use Rattle.control_points.specs.Actions as meaning;
 ghost use Rattle.control_points.specs.Actions.{at_depth, top_depth};
 ghost use Rattle.control_points.specs.Chart.{Chart, leaving, place_of_point};
-ghost use Rattle.control_points.specs.Evaluation.{checked, then_with, value};
+ghost use Rattle.control_points.specs.Evaluation.{checked, value};
 ghost use Rattle.control_points.specs.declared.point.PointKind.TheVariants as point;
 ghost use Rattle.control_points.specs.Fits.{kind_at};
 ghost use Rattle.control_points.specs.Flows.{chart_of};
-ghost use Rattle.control_points.specs.Output.{is_width};
 ghost use Rattle.control_points.specs.Steps.{selector_of};
 ghost use Rattle.control_points.specs.Storage.{whole};
-ghost use Rattle.control_points.specs.Input as input;
-ghost use Rattle.std.specs.Option.{option_map};
 ghost use Rattle.interp.specs.Deeds.{AreOnward, AreSafe, IsAsked, IsChange, IsDeedOf, IsOwn, IsWayBack, LandsAt, is_function, result_in, top_call};
-ghost use Rattle.interp.specs.Meant.{InState, IsChangeOf, IsDecided, IsFirst, bytes_of, text_of, view_in};
+ghost use Rattle.interp.specs.Meant.{InState, IsChangeOf, IsDecided, IsFirst, bytes_of, view_in};
 ghost use Rattle.interp.specs.Machines.{AreItems, top_of, top_point, top_routine};
 
 use crate::evaluate::checked;
 use crate::machine::Machine;
+use crate::transput::after_line;
 use crate::write::{Output, Text};
 use control_points::{Act, Edge, Fault, Item};
-use pas_program::{Access, Actual, Expr, ExprForm, TypeDef, WriteItem, WriteValue};
-use px_base::{BinOp, Kind, UnOp};
+use pas_program::{Access, Actual, Expr};
+use px_base::Kind;
 
 /// A change of the storage.
 #[derive(Clone, Copy, Debug)]
@@ -249,7 +245,7 @@ impl<'a> Machine<'a> {
     }
 
     /// The latest activation goes on, with input or output alone.
-    fn lands(&self, items: &'a [Item], output: Option<Output<'a>>) -> Decision<'a>
+    pub(crate) fn lands(&self, items: &'a [Item], output: Option<Output<'a>>) -> Decision<'a>
         requires { AreItems items.now }
         ensures safe { AreSafe self.now.flow.now.program self.now.frames.items (top_of self.now.frames.items) result }
         ensures exact { (k : ℕ) → InState self.now (λ s. IsDecided self.now s k (Ok (Some (record { onward = at_depth (top_depth s.stack); changes = []; items = items.now; output = s.output ++ bytes_of output.entry }))) result) }
@@ -503,109 +499,6 @@ impl<'a> Machine<'a> {
             value: None,
         })
     }
-
-    fn read(&self, to: &Access) -> Decision<'a>
-        requires numbers { each_access (numbers_in self.now.flow.now.program) to.now ≡ true }
-        requires target { is_target (tables self.now.flow.now.program) false (reached (tables self.now.flow.now.program) to.now) ≡ true }
-        requires scopes { each_access (scope_in self.now.flow.now.program (top_routine self.now.frames.items)) to.now ≡ true }
-        ensures safe { AreSafe self.now.flow.now.program self.now.frames.items (top_of self.now.frames.items) result }
-        ensures exact { (k : ℕ) → InState self.now (λ s. IsDecided self.now s k (meaning.read (chart_of self.now.flow.now) s to.now) result) }
-    {
-        let address = self.spot(to)?;
-        let Some((number, rest)) = next_number(self.items) else {
-            return Err(Fault {
-                kind: Kind::NoNumber,
-                at: to.at,
-            });
-        };
-        let of_type = self.flow.program.type_of_access(to);
-        let fits = self.is_value_of(of_type, number);
-        let z = checked(fits, Kind::ValueOutOfRange, to.at, number)?;
-        Ok(Some(Deed::Lands(Effect {
-            depth: self.frames.len() - 1,
-            change: Change::Set {
-                address,
-                value: Some(z),
-            },
-            items: rest,
-            output: None,
-        })))
-    }
-
-    /// The value comes before the width.
-    fn write(&self, item: &'a WriteItem) -> Decision<'a>
-        requires numbers { each_item (numbers_in self.now.flow.now.program) item.now ≡ true }
-        requires types { item_fits (tables self.now.flow.now.program) item.now ≡ true }
-        requires scopes { each_item (scope_in self.now.flow.now.program (top_routine self.now.frames.items)) item.now ≡ true }
-        ensures safe { AreSafe self.now.flow.now.program self.now.frames.items (top_of self.now.frames.items) result }
-        ensures exact { (k : ℕ) → InState self.now (λ s. IsDecided self.now s k (meaning.write (chart_of self.now.flow.now) s item.now) result) }
-    {
-        let text = match &item.value {
-            WriteValue::Value(e) => self.text_of(e)?,
-            WriteValue::Text { bytes, .. } => Text::Bytes(bytes.as_slice()),
-        };
-        let width = match &item.width {
-            Some(width) => Some(self.width(width)?),
-            None => None,
-        };
-        self.lands(self.items, Some(Output { text, width }))
-    }
-
-    /// What is written of an expression.
-    fn text_of(&self, e: &Expr) -> Result<Text<'a>, Fault>
-        requires numbers { each_expr (numbers_in self.now.flow.now.program) e.now ≡ true }
-        requires types { (hosted (tables self.now.flow.now.program) e.now).fits ≡ true }
-        requires scopes { each_expr (scope_in self.now.flow.now.program (top_routine self.now.frames.items)) e.now ≡ true }
-        ensures exact { InState self.now (λ s. meaning.written_value (chart_of self.now.flow.now) s (written.Value e.now) ≡ then_with result (λ t. Ok (text_of t))) }
-    {
-        let z = self.value(e)?;
-        if self.is_boolean(e) {
-            Ok(Text::Truth(z != 0))
-        } else {
-            Ok(Text::Number(z))
-        }
-    }
-
-    /// Whether an expression is a Boolean; else it is an integer.
-    fn is_boolean(&self, e: &Expr) -> bool
-        requires numbers { each_expr (numbers_in self.now.flow.now.program) e.now ≡ true }
-        requires types { (hosted (tables self.now.flow.now.program) e.now).fits ≡ true }
-        ensures { result ≡ (hosted (tables self.now.flow.now.program) e.now).boolean }
-    {
-        let program = &self.flow.program;
-        match &e.form {
-            ExprForm::Const { boolean, .. } => *boolean,
-            ExprForm::Value(access) => self.has_booleans(program.type_of_access(access)),
-            ExprForm::Unary { op, .. } => gives_boolean(*op),
-            ExprForm::Binary { op, .. } => !matches!(
-                op,
-                BinOp::Add | BinOp::Sub | BinOp::Mul | BinOp::Div | BinOp::Mod
-            ),
-            ExprForm::Call { slot, .. } => self.has_booleans(program.var_def(*slot).of_type),
-        }
-    }
-
-    /// Whether the values of a scalar type are Booleans.
-    fn has_booleans(&self, of_type: u32) -> bool
-        requires { of_type < length self.now.flow.now.program.types }
-        ensures { result ≡ (hosted_by (slice_get self.now.flow.now.program.types of_type)).boolean }
-    {
-        match self.flow.program.type_def(of_type) {
-            TypeDef::Scalar { boolean, .. } => boolean,
-            TypeDef::Array { .. } => false,
-        }
-    }
-
-    fn width(&self, width: &Expr) -> Result<u16, Fault>
-        requires numbers { each_expr (numbers_in self.now.flow.now.program) width.now ≡ true }
-        requires types { (hosted (tables self.now.flow.now.program) width.now).fits ≡ true }
-        requires scopes { each_expr (scope_in self.now.flow.now.program (top_routine self.now.frames.items)) width.now ≡ true }
-        ensures exact { InState self.now (λ s. then_with (value (view_in self.now s) width.now) (λ z. checked (is_width z) kind.WidthOutOfRange (out-Expr width.now).first z) ≡ then_with result (λ n. Ok (pos n))) }
-    {
-        let z = self.value(width)?;
-        let z = checked(1 <= z && z <= 10000, Kind::WidthOutOfRange, width.first, z)?;
-        Ok(z.unsigned_abs() as u16)
-    }
 }
 
 /// Whether a `for` from x to y has a turn.
@@ -633,40 +526,4 @@ fn next_value(down: bool, x: i32, y: i32) -> i32
     // `y` is beyond `x`, so that no step leaves the language's integers.
     let _last = y;
     if down { x - 1 } else { x + 1 }
-}
-
-/// Whether the result of the operator is a Boolean.
-fn gives_boolean(op: UnOp) -> bool
-    ensures { result ≡ unary_gives op }
-{
-    matches!(op, UnOp::Not | UnOp::Odd | UnOp::SuccBool | UnOp::PredBool)
-}
-
-/// The next number of the input, and the items after it. Line ends before it are dropped.
-fn next_number(items: &[Item]) -> Option<(i32, &[Item])>
-    ensures { option_map (λ t. record { number = t.0; rest = t.1.now }) result ≡ input.next_number items.now }
-{
-    let mut rest = items;
-    while let Some((item, others)) = rest.split_first() {
-        match *item {
-            Item::Number(z) => return Some((z, others)),
-            Item::Junk => return None,
-            Item::LineEnd => rest = others,
-        }
-    }
-    None
-}
-
-/// The items after the next line end.
-fn after_line(items: &[Item]) -> &[Item]
-    ensures { result.now ≡ input.after_line items.now }
-{
-    let mut rest = items;
-    while let Some((item, others)) = rest.split_first() {
-        rest = others;
-        if *item == Item::LineEnd {
-            break;
-        }
-    }
-    rest
 }

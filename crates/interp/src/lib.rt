@@ -16,6 +16,7 @@ mod machine;
 mod running;
 mod shown;
 mod stepping;
+mod transput;
 mod write;
 
 pub use control_points::Item;

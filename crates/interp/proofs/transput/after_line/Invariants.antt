@@ -1,6 +1,6 @@
 use Rattle.std.proofs.Common.{◌≡◌, length}
 use Rattle.control_points.specs.Input as input
-use Rattle.interp.proofs.decide.after_line.Given as goal
+use Rattle.interp.proofs.transput.after_line.Given as goal
 
 abbrev pub invariant-loop-item : goal.invariant-loop-item
 invariant-loop-item l = input.after_line l.rest ≡ input.after_line l.items
