@@ -1,4 +1,5 @@
 //! The rules of names, types, labels and control variables, on small programs whose faults follow from the rules.
+use crate::limit::MAX_SOURCE;
 use crate::source::{Refusal, flow_of};
 use pas_check::CheckFault;
 use report::SourceFault;
@@ -339,6 +340,9 @@ const MARK: &str = "{!}";
 
 /// The code and the place of the first fault of a text; or zeros where there is none.
 fn outcome(alloc: Global, text: &str) -> Result<(u8, usize), Fail> {
+    if text.len() > MAX_SOURCE as usize {
+        return Err(Fail::new("the source is too large"));
+    }
     match flow_of(alloc, text.as_bytes()) {
         Ok(_) => Ok((0, 0)),
         Err(Refusal::Fault(SourceFault::Check(CheckFault::Wrong { code, at }))) => Ok((
