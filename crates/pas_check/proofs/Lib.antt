@@ -8,6 +8,7 @@ pub mod Found
 pub mod Headings
 pub mod Labels
 pub mod Loops
+pub mod Meanings
 pub mod Noted
 pub mod Passing
 pub mod Plans

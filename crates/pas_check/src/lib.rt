@@ -32,6 +32,7 @@ mod waiting;
 pub use checker::check;
 pub use fault::CheckFault;
 pub use label::places_say_the_same_as_paths;
+pub use names::names_mean_by_the_rules;
 
 #[cfg(test)]
 mod tests;
