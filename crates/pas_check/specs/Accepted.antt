@@ -1,13 +1,16 @@
--- Programs that break no rule.
-use Rattle.std.specs.Prelude.{ℕ, List, Ok}
+-- The program that a tree stands for.
+use Rattle.std.specs.Prelude.{◌≡◌, ℕ, List, Ok}
+use Rattle.pas_program.specs.declared.program.Program.{Program}
 use Rattle.pas_tree.specs.declared.block.Tree.{Tree}
-use Rattle.pas_check.specs.Blocks.{BlockMay, HasNone, at_first, program_opening}
-use Rattle.pas_check.specs.Labels.{Labelled}
-use Rattle.pas_check.specs.Sight.{Sight}
+use Rattle.pas_check.specs.Blocks.{ProgramMay}
+use Rattle.pas_check.specs.Stage.{Stage}
 
--- The program's block passes all its tests, from a sight in which there is nothing but what every program may use.
-pub record IsUnbroken (text : List ℕ) (tree : Tree) : Type 0 where
-  pub outermost : Labelled
-  pub none : HasNone outermost
-  pub after : Sight
-  pub passes : BlockMay (at_first text outermost) (program_opening text tree.block) tree.block (Ok after)
+-- The tree breaks no rule, and the program is what is built of it: each type, variable, routine and assertion of the text, with what
+-- its names denote, and each statement and expression in its place.
+pub record IsProgramOf (text : List ℕ) (tree : Tree) (program : Program) : Type 0 where
+  pub after : Stage
+  pub passes : ProgramMay text tree (Ok after)
+  pub types : program.types ≡ after.seen.types
+  pub vars : program.vars ≡ after.built.vars
+  pub routines : program.routines ≡ after.built.routines
+  pub asserts : program.asserts ≡ after.built.asserts

@@ -1,5 +1,5 @@
--- Blocks and the routines in them (ISO 7185, 6.2 and 6.6), and what they may answer: what is seen after them, or the fault of
--- the first rule that they break. Numbers of variables and of routines are any.
+-- Blocks and the routines in them (ISO 7185, 6.2 and 6.6), and what they may answer: where the walk stands after them, or the fault
+-- of the first rule that they break. A heading may get any number for its routine; a block that ends is the routine with this number.
 use Rattle.std.specs.Prelude.{◌≡◌, ℕ, ◌≤◌, nat_eq, pos, ◌-ℤ◌, Bool, true, false, ◌&&◌, not, List, [], ◌∷◌, map, length, codes, is_some, Option, Some, None, Ok, Err, if◌then◌else◌}
 use Rattle.std.specs.Bool.{beq}
 use Rattle.std.specs.Option.{option_copied, option_map}
@@ -18,12 +18,18 @@ use Rattle.pas_tree.specs.declared.block.RoutineBody.TheVariants as body_of
 use Rattle.pas_tree.specs.declared.block.RoutineBody.TheViews.{out-Block, out-Routine, out-RoutineBody}
 use Rattle.pas_tree.specs.declared.block.Tree.{Tree}
 use Rattle.pas_tree.specs.declared.statement.Statement.{Statement}
+use Rattle.pas_program.specs.declared.statement.Body.TheVariants as body
+use Rattle.pas_program.specs.declared.statement.Body.TheViews.{roll-Statement}
+use Rattle.pas_program.specs.declared.statement.Statement as statement
+use Rattle.pas_check.specs.declared.block.Outer.{Outer}
+use Rattle.pas_check.specs.declared.built.Built.{Built}
 use Rattle.pas_check.specs.declared.fault.CheckFault.{CheckFault}
 use Rattle.pas_check.specs.declared.fault.CheckFault.TheVariants as told
 use Rattle.pas_check.specs.declared.fault.Fault.{Fault}
 use Rattle.pas_check.specs.declared.fault.Fault.TheVariants.{Broken, Memory}
 use Rattle.pas_check.specs.declared.fault.Rule.{Rule}
 use Rattle.pas_check.specs.declared.fault.Rule.TheVariants as rule
+use Rattle.pas_check.specs.declared.frame.Frame.{Frame}
 use Rattle.pas_check.specs.declared.heading.Function.{Function}
 use Rattle.pas_check.specs.declared.heading.Opened.{Opened}
 use Rattle.pas_check.specs.declared.meaning.Meaning.{Meaning}
@@ -34,8 +40,9 @@ use Rattle.pas_check.specs.declared.plan.Plan.{Plan}
 use Rattle.pas_check.specs.declared.waiting.Waiting.{Waiting}
 use Rattle.pas_check.specs.Block.{names_in}
 use Rattle.pas_check.specs.Control.{all_assigned, all_threatened}
-use Rattle.pas_check.specs.Declarations.{InTurn, VarMay, const_declared, led_by, type_declared}
-use Rattle.pas_check.specs.Headings.{HeadingMay, Opening, inside, opening_of, outside}
+use Rattle.pas_check.specs.Built.{frame_of, nothing_built, with_routine}
+use Rattle.pas_check.specs.Declarations.{const_declared, led_by, type_declared, var_declared}
+use Rattle.pas_check.specs.Headings.{HeadingMay, inside, outside}
 use Rattle.pas_check.specs.Labels.{Labelled, Labels, declaration_of, labels_declared, placed_in}
 use Rattle.pas_check.specs.Names.{Name, Names, ended, name_at, noted_all, spelling}
 use Rattle.pas_check.specs.Outcome.{Outcome, ◌>>=◌, each, unless}
@@ -43,6 +50,8 @@ use Rattle.pas_check.specs.Placing.{noted, sequence_marks}
 use Rattle.pas_check.specs.Routine.{repeated_heading, result_assigned}
 use Rattle.pas_check.specs.Rules.{code_of, lacks_body}
 use Rattle.pas_check.specs.Sight.{Sight}
+use Rattle.pas_check.specs.Stage.{Stage}
+use Rattle.pas_check.specs.StatementForms.{sequence_form}
 use Rattle.pas_check.specs.Statements.{in_turn, stated}
 use Rattle.pas_check.specs.Writes.{in_turn_writes, statement_writes}
 use Rattle.pas_check.specs.Written.{Written}
@@ -56,25 +65,26 @@ pub data LabelsMay (b : Block) : Outcome Labels → Type 0 where
       → ((n : ℕ) → get nat_eq labels n ≡ noted n (sequence_marks (out-Block b).body true) (declaration_of n (out-Block b).labels None)) → LabelsMay b (Ok labels)
 
 -- constants, types and variables
-pub data PartsMay (v : Sight) (b : Block) : Outcome Sight → Type 0 where
-  in_consts : {f : Fault} → led_by const_declared v (out-Block b).consts ≡ Err f → PartsMay v b (Err f)
-  in_types : {u : Sight} {f : Fault} → led_by const_declared v (out-Block b).consts ≡ Ok u → led_by type_declared u (out-Block b).types ≡ Err f → PartsMay v b (Err f)
-  in_vars : {u w : Sight} {o : Outcome Sight} → led_by const_declared v (out-Block b).consts ≡ Ok u → led_by type_declared u (out-Block b).types ≡ Ok w → InTurn VarMay w (out-Block b).vars o → PartsMay v b o
+unfoldable pub parts : Stage → Block → Outcome Stage
+parts s b = do
+  u ← led_by const_declared s.seen (out-Block b).consts
+  w ← led_by type_declared u (out-Block b).types
+  led_by var_declared (record s { seen = w }) (out-Block b).vars
 
 abbrev pub head_of : Function → ℕ
 head_of f = f.head
 
 -- the block of an opening, with what is kept of its labels
-abbrev pub own_block : Opening → ℕ → Labels → Labelled
-own_block p routine labels = record { routine = routine; function = option_map head_of p.result; labels = labels }
+abbrev pub own_block : Opened → Labels → Labelled
+own_block p labels = record { routine = p.frame.routine; function = option_map head_of p.result; labels = labels }
 
-abbrev pub entered : Sight → Opening → Labelled → Sight
-entered v p l = record (inside v p.names l) { level = p.level }
+abbrev pub entered : Stage → Opened → Labelled → Stage
+entered s p l = record { seen = record (inside s.seen p.names l) { level = p.frame.level }; built = record s.built { frame = p.frame } }
 
 -- the block of an opening, up to its routines
-pub data BeginsMay (v : Sight) (p : Opening) (b : Block) : Outcome Sight → Type 0 where
-  in_labels : {f : Fault} → LabelsMay b (Err f) → BeginsMay v p b (Err f)
-  in_parts : {labels : Labels} {o : Outcome Sight} (routine : ℕ) → LabelsMay b (Ok labels) → PartsMay (entered v p (own_block p routine labels)) b o → BeginsMay v p b o
+pub data BeginsMay (s : Stage) (p : Opened) (b : Block) : Outcome Stage → Type 0 where
+  in_labels : {f : Fault} → LabelsMay b (Err f) → BeginsMay s p b (Err f)
+  in_parts : {labels : Labels} {o : Outcome Stage} → LabelsMay b (Ok labels) → parts (entered s p (own_block p labels)) b ≡ o → BeginsMay s p b o
 
 -- ---- headings and their blocks
 
@@ -128,54 +138,54 @@ lacking_by (Some at) = Err (Broken rule.Body at)
 
 -- ---- routines
 
--- what is seen before and after routines of a block, and the `forward` headings that wait for their bodies, by their names
+-- where the walk stands before and after routines of a block, and the `forward` headings that wait for their bodies, by their names
 pub record Standing : Type 0 where
-  pub seen : Sight
-  pub waiting : Name → Option Opening
+  pub at : Stage
+  pub waiting : Name → Option Opened
 
 -- of several with a name, the first
-abbrev pub opening_for : Name → List (Vec ℕ Global × Opened) → Option Opening
+abbrev pub opening_for : Name → List (Vec ℕ Global × Opened) → Option Opened
 opening_for name [] = None
-opening_for name (e ∷ rest) = if bytes_eq name e.0.items then Some (opening_of e.1) else opening_for name rest
+opening_for name (e ∷ rest) = if bytes_eq name e.0.items then Some e.1 else opening_for name rest
 
-abbrev pub waiting_of : Waiting → Name → Option Opening
+abbrev pub waiting_of : Waiting → Name → Option Opened
 waiting_of w name = opening_for name w.opened.entries
 
-abbrev pub nothing_waits : Name → Option Opening
+abbrev pub nothing_waits : Name → Option Opened
 nothing_waits name = None
 
 -- a heading waits, or waits no more
-abbrev pub waits : (Name → Option Opening) → Name → Option Opening → Name → Option Opening
+abbrev pub waits : (Name → Option Opened) → Name → Option Opened → Name → Option Opened
 waits waiting name o other = if bytes_eq name other then o else waiting other
 
 -- one that waits for a body with this word
-abbrev pub with_word : Bool → Option Opening → Option Opening
+abbrev pub with_word : Bool → Option Opened → Option Opened
 with_word function None = None
 with_word function (Some o) = if beq function o.function then Some o else None
 
-abbrev pub waits_for : Standing → Routine → Option Opening
-waits_for s r = with_word (out-Routine r).function (s.waiting (name_at s.seen.text (out-Routine r).name))
+abbrev pub waits_for : Standing → Routine → Option Opened
+waits_for s r = with_word (out-Routine r).function (s.waiting (name_at s.at.seen.text (out-Routine r).name))
 
 -- the only word that may stand in the place of a block
 abbrev pub is_forward : List ℕ → Span → Bool
 is_forward text word = bytes_eq (str_to_ascii_lowercase (spelling text word)) (codes "forward")
 
-abbrev pub forwarded : Standing → Routine → Span → Sight × Opening → Outcome Standing
+abbrev pub forwarded : Standing → Routine → Span → Stage × Opened → Outcome Standing
 forwarded s r word h =
-    unless (not (is_forward h.0.text word)) rule.Kind word.start
-    (Ok (record { seen = h.0; waiting = waits s.waiting (name_at h.0.text (out-Routine r).name) (Some h.1) }))
+    unless (not (is_forward h.0.seen.text word)) rule.Kind word.start
+    (Ok (record { at = h.0; waiting = waits s.waiting (name_at h.0.seen.text (out-Routine r).name) (Some h.1) }))
 
 -- a heading with a word in the place of its block, which waits for a later block
-pub data ForwardMay (s : Standing) (r : Routine) (word : Span) (later : Option Block) : Outcome Standing → Type 0 where
-  in_forward : {f : Fault} → HeadingMay s.seen r later (Err f) → ForwardMay s r word later (Err f)
-  headed_forward : {h : Sight × Opening} {o : Outcome Standing} → HeadingMay s.seen r later (Ok h) → forwarded s r word h ≡ o → ForwardMay s r word later o
+pub data ForwardMay (s : Standing) (r : Routine) (word : Span) (number : ℕ) (later : Option Block) : Outcome Standing → Type 0 where
+  in_forward : {f : Fault} → HeadingMay s.at r number later (Err f) → ForwardMay s r word number later (Err f)
+  headed_forward : {h : Stage × Opened} {o : Outcome Standing} → HeadingMay s.at r number later (Ok h) → forwarded s r word h ≡ o → ForwardMay s r word number later o
 
 -- a heading with its block, up to the block: the body of one that waits, or a heading of its own
-pub data OpenMay (s : Standing) (r : Routine) (b : Block) : Outcome (Standing × Opening) → Type 0 where
-  awaited : {p : Opening} {o : Outcome (Standing × Opening)} → waits_for s r ≡ Some p
-      → (do done ← repeated_heading (out-Routine r); Ok (record s { waiting = waits s.waiting (name_at s.seen.text (out-Routine r).name) None }, p)) ≡ o → OpenMay s r b o
-  in_heading : {f : Fault} → waits_for s r ≡ None → HeadingMay s.seen r (Some b) (Err f) → OpenMay s r b (Err f)
-  opened : {h : Sight × Opening} → waits_for s r ≡ None → HeadingMay s.seen r (Some b) (Ok h) → OpenMay s r b (Ok (record s { seen = h.0 }, h.1))
+pub data OpenMay (s : Standing) (r : Routine) (b : Block) (number : ℕ) : Outcome (Standing × Opened) → Type 0 where
+  awaited : {p : Opened} {o : Outcome (Standing × Opened)} → waits_for s r ≡ Some p
+      → (do done ← repeated_heading (out-Routine r); Ok (record s { waiting = waits s.waiting (name_at s.at.seen.text (out-Routine r).name) None }, p)) ≡ o → OpenMay s r b number o
+  in_heading : {f : Fault} → waits_for s r ≡ None → HeadingMay s.at r number (Some b) (Err f) → OpenMay s r b number (Err f)
+  opened : {h : Stage × Opened} → waits_for s r ≡ None → HeadingMay s.at r number (Some b) (Ok h) → OpenMay s r b number (Ok (record s { at = h.0 }, h.1))
 
 -- ---- blocks
 
@@ -204,22 +214,41 @@ abbrev pub left : Sight → Sight → Sight
 left v w = record (outside w) { level = v.level }
 
 -- from the statement part on, for the block of an opening that began at v
-unfoldable pub block_ended : Sight → Opening → Block → List ℕ → Sight → Outcome Sight
+unfoldable pub block_ended : Sight → Opened → Block → List ℕ → Sight → Outcome Sight
 block_ended v p b text s = do
   w ← statements_ended s (out-Block b).body
   done ← end_allowed text w p.result b
   Ok (left v w)
 
-abbrev pub standing : Sight → (Name → Option Opening) → Standing
-standing v waiting = record { seen = v; waiting = waiting }
+-- a statement part as one statement
+abbrev pub statement_of : Block → List statement.Statement → statement.Statement
+statement_of b statements = roll-Statement (record { at = (out-Block b).begin.start; label = None; asserts = []; body = body.Begin statements (out-Block b).end.start })
+
+-- the routine of the block is built, and the one around it is at hand again
+abbrev pub block_built : Frame → Block → List statement.Statement → Built → Built
+block_built around b statements built = with_routine built.frame (statement_of b statements) (record built { frame = around })
+
+-- From the statement part on, where the walk stands before it, of a block that began at a stage: the fault of the first rule that is
+-- broken, or the routine of the block, which is the one of its number.
+pub data EndMay (s : Stage) (p : Opened) (b : Block) (text : List ℕ) (t : Stage) : Outcome Stage → Type 0 where
+  not_ended : {f : Fault} → block_ended s.seen p b text t.seen ≡ Err f → EndMay s p b text t (Err f)
+  ends : {w : Sight} {x : List statement.Statement × Built} → block_ended s.seen p b text t.seen ≡ Ok w → sequence_form t.seen (out-Block b).body t.built ≡ Some x → x.1.frame.routine ≡ length x.1.routines
+      → EndMay s p b text t (Ok (record { seen = w; built = block_built s.built.frame b x.0 x.1 }))
+
+-- what the walk keeps of what is around the block
+abbrev pub outer_of : Stage → Outer
+outer_of s = record { frame = s.built.frame; level = s.seen.level }
+
+abbrev pub standing : Stage → (Name → Option Opened) → Standing
+standing s waiting = record { at = s; waiting = waiting }
 
 mutual
-  -- the block of an opening, from what is seen before it
-  pub data BlockMay : Sight → Opening → Block → Outcome Sight → Type 0 where
-    not_begun : {v : Sight} {p : Opening} {b : Block} {f : Fault} → BeginsMay v p b (Err f) → BlockMay v p b (Err f)
-    in_routines : {v u : Sight} {p : Opening} {b : Block} {f : Fault} → BeginsMay v p b (Ok u) → RoutinesMay (standing u nothing_waits) (planned u.text (out-Block b).routines) (Err f) → BlockMay v p b (Err f)
-    to_end : {v u : Sight} {p : Opening} {b : Block} {s : Standing} {o : Outcome Sight} → BeginsMay v p b (Ok u) → RoutinesMay (standing u nothing_waits) (planned u.text (out-Block b).routines) (Ok s)
-        → block_ended v p b u.text s.seen ≡ o → BlockMay v p b o
+  -- the block of an opening, from where the walk stands before it
+  pub data BlockMay : Stage → Opened → Block → Outcome Stage → Type 0 where
+    not_begun : {s : Stage} {p : Opened} {b : Block} {f : Fault} → BeginsMay s p b (Err f) → BlockMay s p b (Err f)
+    in_routines : {s u : Stage} {p : Opened} {b : Block} {f : Fault} → BeginsMay s p b (Ok u) → RoutinesMay (standing u nothing_waits) (planned u.seen.text (out-Block b).routines) (Err f) → BlockMay s p b (Err f)
+    to_end : {s u : Stage} {p : Opened} {b : Block} {t : Standing} {o : Outcome Stage} → BeginsMay s p b (Ok u) → RoutinesMay (standing u nothing_waits) (planned u.seen.text (out-Block b).routines) (Ok t)
+        → EndMay s p b u.seen.text t.at o → BlockMay s p b o
 
   -- headings with their blocks, one after the other
   pub data RoutinesMay : Standing → List (Routine × Option Block) → Outcome Standing → Type 0 where
@@ -229,10 +258,10 @@ mutual
 
   -- a heading with its block, or with a word in its place, for which a later block may count
   pub data RoutineMay : Standing → Routine → Option Block → Outcome Standing → Type 0 where
-    is_word : {s : Standing} {r : Routine} {later : Option Block} {o : Outcome Standing} (word : Span) → (out-Routine r).body ≡ body_of.Word word → ForwardMay s r word later o → RoutineMay s r later o
-    not_opened : {s : Standing} {r : Routine} {later : Option Block} {f : Fault} (b : Block) → (out-Routine r).body ≡ body_of.Block b → OpenMay s r b (Err f) → RoutineMay s r later (Err f)
-    in_block : {s t : Standing} {r : Routine} {later : Option Block} {p : Opening} {f : Fault} (b : Block) → (out-Routine r).body ≡ body_of.Block b → OpenMay s r b (Ok (t, p)) → BlockMay t.seen p b (Err f) → RoutineMay s r later (Err f)
-    whole_block : {s t : Standing} {r : Routine} {later : Option Block} {p : Opening} {w : Sight} (b : Block) → (out-Routine r).body ≡ body_of.Block b → OpenMay s r b (Ok (t, p)) → BlockMay t.seen p b (Ok w)
+    is_word : {s : Standing} {r : Routine} {later : Option Block} {o : Outcome Standing} (word : Span) (number : ℕ) → (out-Routine r).body ≡ body_of.Word word → ForwardMay s r word number later o → RoutineMay s r later o
+    not_opened : {s : Standing} {r : Routine} {later : Option Block} {f : Fault} (b : Block) (number : ℕ) → (out-Routine r).body ≡ body_of.Block b → OpenMay s r b number (Err f) → RoutineMay s r later (Err f)
+    in_block : {s t : Standing} {r : Routine} {later : Option Block} {p : Opened} {f : Fault} (b : Block) (number : ℕ) → (out-Routine r).body ≡ body_of.Block b → OpenMay s r b number (Ok (t, p)) → BlockMay t.at p b (Err f) → RoutineMay s r later (Err f)
+    whole_block : {s t : Standing} {r : Routine} {later : Option Block} {p : Opened} {w : Stage} (b : Block) (number : ℕ) → (out-Routine r).body ≡ body_of.Block b → OpenMay s r b number (Ok (t, p)) → BlockMay t.at p b (Ok w)
         → RoutineMay s r later (Ok (standing w t.waiting))
 
 -- ---- programs
@@ -281,15 +310,24 @@ pub record IsAtFirst (text : List ℕ) (v : Sight) : Type 0 where
   pub none : HasNone outermost
   pub is : v ≡ at_first text outermost
 
--- the block of a program
-abbrev pub program_opening : List ℕ → Block → Opening
-program_opening text b = record { level = 0; function = false; names = noted_all text (names_in b) []; result = None }
+-- the frame of a program's block, whose routine has a number
+abbrev pub program_frame : Tree → ℕ → Frame
+program_frame tree number = frame_of tree.name number None 0 [] None
 
--- The rule is broken at the place, and no rule is before it in the order of the text.
-pub record IsFirstBroken (text : List ℕ) (tree : Tree) (rule : Rule) (at : ℕ) : Type 0 where
+-- the block of a program
+abbrev pub program_opened : List ℕ → Tree → Frame → Opened
+program_opened text tree frame = record { frame = frame; function = false; names = noted_all text (names_in tree.block) []; result = None }
+
+-- What a program may answer, from the beginning, where nothing is built.
+pub record ProgramMay (text : List ℕ) (tree : Tree) (o : Outcome Stage) : Type 0 where
   pub outermost : Labelled
   pub none : HasNone outermost
-  pub broken : BlockMay (at_first text outermost) (program_opening text tree.block) tree.block (Err (Broken rule at))
+  pub number : ℕ
+  pub answers : BlockMay (record { seen = at_first text outermost; built = nothing_built (program_frame tree number) }) (program_opened text tree (program_frame tree number)) tree.block o
+
+-- The rule is broken at the place, and no rule is before it in the order of the text.
+abbrev pub IsFirstBroken : List ℕ → Tree → Rule → ℕ → Type 0
+IsFirstBroken text tree rule at = ProgramMay text tree (Err (Broken rule at))
 
 -- a fault as it is told: the code of a rule, and the place where it is broken, if it lies in the text
 abbrev pub IsSound : List ℕ → Tree → CheckFault → Type 0

@@ -13,16 +13,17 @@ use Rattle.pas_tree.specs.declared.constant.Constant.{Constant}
 use Rattle.pas_tree.specs.declared.type_expr.TypeExpr.{TypeExpr}
 use Rattle.pas_tree.specs.declared.type_expr.TypeExpr.TheOpen.{TypeExpr-F}
 use Rattle.pas_tree.specs.declared.type_expr.TypeExpr.TheFolds.{fold-TypeExpr}
-use Rattle.pas_check.specs.declared.fault.Fault.{Fault}
 use Rattle.pas_check.specs.declared.fault.Rule.TheVariants as rule
 use Rattle.pas_check.specs.declared.meaning.Meaning.{Meaning}
 use Rattle.pas_check.specs.declared.meaning.Meaning.TheVariants as means
+use Rattle.pas_check.specs.Built.{with_own}
 use Rattle.pas_check.specs.Constant.{constant}
 use Rattle.pas_check.specs.Expr.{claimed}
 use Rattle.pas_check.specs.Names.{Names, ended, name_at}
 use Rattle.pas_check.specs.Outcome.{Outcome, ◌>>=◌, needed, unless}
 use Rattle.pas_check.specs.Rules.{has_too_many, is_empty_range, is_other_host}
 use Rattle.pas_check.specs.Sight.{Sight, host_at}
+use Rattle.pas_check.specs.Stage.{Stage}
 use Rattle.pas_check.specs.TypeExpr.{named_type}
 
 -- the innermost block, after a change of what it declares
@@ -34,12 +35,17 @@ in_innermost change (block ∷ around) = change block ∷ around
 unfoldable pub defined : Sight → Span → Meaning → Sight
 defined v name m = record v { blocks = in_innermost (ended (name_at v.text name) name.start m) v.blocks }
 
--- declarations one after the other, each by what is seen after those before
-abbrev pub led_by : {A : Type 0} → (Sight → A → Outcome Sight) → Sight → List A → Outcome Sight
+-- declarations one after the other, each by what there is after those before
+abbrev pub led_by : {S A : Type 0} → (S → A → Outcome S) → S → List A → Outcome S
 led_by step v [] = Ok v
 led_by step v (d ∷ rest) = do
   w ← step v d
   led_by step w rest
+
+-- the same of declarations that break no rule
+abbrev pub led : {S A : Type 0} → (S → A → S) → S → List A → S
+led step v [] = v
+led step v (d ∷ rest) = led step (step v d) rest
 
 -- ---- constants
 
@@ -131,30 +137,22 @@ type_declared v d = do
 
 -- ---- variables
 
--- A variable has a number, by which no test knows it: any number will do. So of a part with variables it is said what it may answer,
--- which is what is seen after it, or the fault of the first rule that it breaks.
-
--- the parts of a list, one after the other, by what stands before each of them
-pub data InTurn {S A : Type 0} (May : S → A → Outcome S → Type 0) : S → List A → Outcome S → Type 0 where
-  ends : {v : S} → InTurn May v [] (Ok v)
-  stops : {v : S} {x : A} {rest : List A} {f : Fault} → May v x (Err f) → InTurn May v (x ∷ rest) (Err f)
-  goes : {v u : S} {x : A} {rest : List A} {o : Outcome S} → May v x (Ok u) → InTurn May u rest o → InTurn May v (x ∷ rest) o
-
 -- a name whose type is still to be read
 unfoldable pub name_claimed : Sight → Span → Outcome Sight
 name_claimed v name = do
   done ← claimed v name
   Ok (defined v name means.Untyped)
 
--- a variable of the block, of a type
-abbrev pub local : Sight → ℕ → ℕ → Span → Sight
-local v t number name = defined v name (means.Variable (record { number = number; at = name.start; level = v.level; kind = kind.Local; of_type = t }))
-
-abbrev pub IsLocal : ℕ → Sight → Span → Outcome Sight → Type 0
-IsLocal t v name o = (number : ℕ) × (o ≡ Ok (local v t number name))
+-- a variable of the block, of a type, which gets the next number
+unfoldable pub local_declared : ℕ → Stage → Span → Stage
+local_declared t s name = record {
+  seen = defined s.seen name (means.Variable (record { number = length s.built.vars; at = name.start; level = s.seen.level; kind = kind.Local; of_type = t }));
+  built = with_own name kind.Local t s.built;
+}
 
 -- a section of a variable part
-pub data VarMay (v : Sight) (d : VarDecl) : Outcome Sight → Type 0 where
-  in_names : {f : Fault} → led_by name_claimed v d.names ≡ Err f → VarMay v d (Err f)
-  in_type : {u : Sight} {f : Fault} → led_by name_claimed v d.names ≡ Ok u → (type_test d.of_type).read u ≡ Err f → VarMay v d (Err f)
-  declared : {u w : Sight} {r : Read} → led_by name_claimed v d.names ≡ Ok u → (type_test d.of_type).read u ≡ Ok r → InTurn (IsLocal r.0) (with_types u r.1) d.names (Ok w) → VarMay v d (Ok w)
+unfoldable pub var_declared : Stage → VarDecl → Outcome Stage
+var_declared s d = do
+  u ← led_by name_claimed s.seen d.names
+  r ← (type_test d.of_type).read u
+  Ok (led (local_declared r.0) (record s { seen = with_types u r.1 }) d.names)

@@ -281,16 +281,17 @@ is_inside (block ∷ around) head = holds_of (λ (own : ℕ). nat_eq own head) b
 abbrev pub result_inside : Sight → ℕ → Option Variable
 result_inside v head = if is_inside v.labels head then result_by (slice_get v.headings head) else None
 
--- what a call needs of a routine: how many formals it has, and the type of its result
+-- what a call needs of a routine: its number, how many formals it has, and the type of its result
 pub record Call : Type 0 where
+  pub routine : ℕ
   pub formals : ℕ
   pub result : ℕ
 
 abbrev pub call_of : Heading → Call
-call_of h = record { formals = length h.formals; result = type_of_result h.result }
+call_of h = record { routine = h.routine; formals = length h.formals; result = type_of_result h.result }
 
 abbrev pub call_shown : Callee → Call
-call_shown c = record { formals = c.formals; result = c.result }
+call_shown c = record { routine = c.routine; formals = c.formals; result = c.result }
 
 abbrev pub callee_at : Sight → ℕ → Option Call
 callee_at v head = option_map call_of (slice_get v.headings head)

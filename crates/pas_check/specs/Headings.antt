@@ -1,5 +1,5 @@
--- The heading of a routine (ISO 7185, 6.6.1 and 6.6.2), and what it may answer: what is seen after it with
--- what its block begins with, or the fault of the first rule that it breaks. Numbers of variables and of routines are any.
+-- The heading of a routine (ISO 7185, 6.6.1 and 6.6.2), and what it may answer: where the walk stands after it with what its block
+-- begins with, or the fault of the first rule that it breaks.
 use Rattle.std.specs.Prelude.{◌≡◌, ℕ, ◌+◌, List, [], ◌∷◌, ◌++◌, length, flat_map, Bool, Option, Some, None, Ok, Err}
 use Rattle.std.specs.Option.{option_map}
 use Rattle.px_base.specs.declared.place.Span.{Span}
@@ -12,15 +12,19 @@ use Rattle.pas_check.specs.declared.meaning.Meaning.TheVariants as means
 use Rattle.pas_check.specs.declared.meaning.Variable.{Variable}
 use Rattle.pas_check.specs.declared.heading.Function.{Function}
 use Rattle.pas_check.specs.declared.heading.Opened.{Opened}
+use Rattle.pas_check.specs.declared.heading.Owner.{Owner}
+use Rattle.pas_check.specs.declared.built.Built.{Built}
 use Rattle.pas_check.specs.Block.{names_in, section_names}
-use Rattle.pas_check.specs.Declarations.{InTurn, defined}
+use Rattle.pas_check.specs.Built.{frame_of, variable_of, with_variable}
+use Rattle.pas_check.specs.Declarations.{defined, led_by}
 use Rattle.pas_check.specs.Expr.{claimed}
-use Rattle.pas_check.specs.Formals.{Formed, SectionMay}
+use Rattle.pas_check.specs.Formals.{Formed, section_declared}
 use Rattle.pas_check.specs.Labels.{Labelled}
 use Rattle.pas_check.specs.Names.{Names, noted_all}
 use Rattle.pas_check.specs.Outcome.{Outcome, ◌>>=◌}
 use Rattle.pas_check.specs.Routine.{heading_allowed, result_type}
 use Rattle.pas_check.specs.Sight.{Heading, Sight, innermost}
+use Rattle.pas_check.specs.Stage.{Stage}
 
 -- ---- blocks inside one another
 
@@ -40,7 +44,7 @@ outside v = record v { blocks = around v.blocks; labels = around v.labels }
 unfoldable pub begun : Sight → Routine → Outcome Sight
 begun v r = do
   free ← claimed v (out-Routine r).name
-  allowed ← heading_allowed (out-Routine r) v.level
+  low ← heading_allowed (out-Routine r) v.level
   Ok (defined v (out-Routine r).name (means.Routine (length v.headings) (out-Routine r).function))
 
 -- the names of its block: its formals, and what the block declares, which may come later
@@ -58,7 +62,7 @@ result_read v (Some name) = do
   t ← result_type v name
   Ok (Some t)
 
--- the variable for the result, with a number
+-- the variable for the result
 abbrev pub result_of : ℕ → Span → ℕ → ℕ → Variable
 result_of level name number t = record { number = number; at = name.start; level = level; kind = kind.Result; of_type = t }
 
@@ -67,31 +71,48 @@ abbrev pub function_of : ℕ → ℕ → Option Variable → Option Function
 function_of head at None = None
 function_of head at (Some x) = Some (record { head = head; at = at })
 
--- A routine whose heading was read: how many routines are around what it declares, whether it is a function, what its block
--- declares, and the function whose result its block gives.
-pub record Opening : Type 0 where
-  pub level : ℕ
-  pub function : Bool
-  pub names : Names
-  pub result : Option Function
-
-abbrev pub opening_of : Opened → Opening
-opening_of o = record { level = o.frame.level; function = o.function; names = o.names; result = o.result }
-
 -- callers see the routine
 abbrev pub headed : Sight → Heading → Sight
 headed v h = record v { headings = v.headings ++ h ∷ [] }
 
--- what its block begins with, where the heading begins at a sight and its formals end in another one
-abbrev pub opening : Sight → Routine → Formed → Option Variable → Opening
-opening v r s result =
-    record { level = v.level + 1; function = (out-Routine r).function; names = innermost s.0.blocks; result = function_of (length v.headings) (out-Routine r).name.start result }
+-- the variable for the result, if there is one, with what is built after it
+abbrev pub result_declared : Owner → Span → Option ℕ → Built → Option Variable × Built
+result_declared owner name None b = (None, b)
+result_declared owner name (Some t) b = (Some (result_of owner.level name (length b.vars) t), with_variable (variable_of name owner.routine kind.Result t) b)
 
-pub data HeadingMay (v : Sight) (r : Routine) (later : Option Block) : Outcome (Sight × Opening) → Type 0 where
-  not_begun : {f : Fault} → begun v r ≡ Err f → HeadingMay v r later (Err f)
-  in_formals : {u : Sight} {f : Fault} (l : Labelled) → begun v r ≡ Ok u → InTurn (SectionMay (v.level + 1)) (inside u (own_names u r later) l, []) (out-Routine r).formals (Err f) → HeadingMay v r later (Err f)
-  in_result : {u : Sight} {s : Formed} {f : Fault} (l : Labelled) → begun v r ≡ Ok u → InTurn (SectionMay (v.level + 1)) (inside u (own_names u r later) l, []) (out-Routine r).formals (Ok s)
-      → result_read (outside s.0) (out-Routine r).result ≡ Err f → HeadingMay v r later (Err f)
-  whole : {u : Sight} {s : Formed} {t : Option ℕ} (l : Labelled) (number : ℕ) → begun v r ≡ Ok u → InTurn (SectionMay (v.level + 1)) (inside u (own_names u r later) l, []) (out-Routine r).formals (Ok s)
-      → result_read (outside s.0) (out-Routine r).result ≡ Ok t
-      → HeadingMay v r later (Ok (headed (outside s.0) (record { formals = s.1; result = option_map (result_of (v.level + 1) (out-Routine r).name number) t }), opening v r s (option_map (result_of (v.level + 1) (out-Routine r).name number) t)))
+abbrev pub number_of : Variable → ℕ
+number_of x = x.number
+
+abbrev pub type_of_variable : Variable → ℕ
+type_of_variable x = x.of_type
+
+-- What its block begins with: a frame for its variables, whether it is a function, what it declares, and the function whose
+-- result it gives.
+abbrev pub opened_with : Stage → Routine → Owner → Formed → Option Variable → Opened
+opened_with s r owner f result = record {
+  frame = frame_of (out-Routine r).name owner.routine (Some f.at.built.frame.routine) owner.level f.numbers (option_map number_of result);
+  function = (out-Routine r).function;
+  names = innermost f.at.seen.blocks;
+  result = function_of (length s.seen.headings) (out-Routine r).name.start result;
+}
+
+abbrev pub headed_with : Stage → Routine → Owner → Formed → Option Variable × Built → Stage × Opened
+headed_with s r owner f x =
+    (record { seen = headed (outside f.at.seen) (record { routine = owner.routine; formals = f.formals; result = x.0 }); built = x.1 }, opened_with s r owner f x.0)
+
+-- a routine by its number, in the block at hand
+abbrev pub owner_in : Sight → ℕ → Owner
+owner_in v number = record { routine = number; level = v.level + 1 }
+
+-- before the formals, whose names belong to the routine's own block
+abbrev pub unformed : Stage → Sight → Routine → Option Block → Labelled → Formed
+unformed s u r later l = record { at = record s { seen = inside u (own_names u r later) l }; formals = []; numbers = [] }
+
+pub data HeadingMay (s : Stage) (r : Routine) (number : ℕ) (later : Option Block) : Outcome (Stage × Opened) → Type 0 where
+  not_begun : {f : Fault} → begun s.seen r ≡ Err f → HeadingMay s r number later (Err f)
+  in_formals : {u : Sight} {f : Fault} (l : Labelled) → begun s.seen r ≡ Ok u → led_by (section_declared (owner_in s.seen number)) (unformed s u r later l) (out-Routine r).formals ≡ Err f → HeadingMay s r number later (Err f)
+  in_result : {u : Sight} {x : Formed} {f : Fault} (l : Labelled) → begun s.seen r ≡ Ok u → led_by (section_declared (owner_in s.seen number)) (unformed s u r later l) (out-Routine r).formals ≡ Ok x
+      → result_read (outside x.at.seen) (out-Routine r).result ≡ Err f → HeadingMay s r number later (Err f)
+  whole : {u : Sight} {x : Formed} {t : Option ℕ} (l : Labelled) → begun s.seen r ≡ Ok u → led_by (section_declared (owner_in s.seen number)) (unformed s u r later l) (out-Routine r).formals ≡ Ok x
+      → result_read (outside x.at.seen) (out-Routine r).result ≡ Ok t
+      → HeadingMay s r number later (Ok (headed_with s r (owner_in s.seen number) x (result_declared (owner_in s.seen number) (out-Routine r).name t x.at.built)))

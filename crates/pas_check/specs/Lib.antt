@@ -1,6 +1,7 @@
 pub mod Accepted
 pub mod Block
 pub mod Blocks
+pub mod Built
 pub mod Constant
 pub mod Control
 pub mod Declarations
@@ -8,6 +9,7 @@ pub mod Expr
 pub mod Fault
 pub mod FirstFault
 pub mod Formals
+pub mod Forms
 pub mod Headings
 pub mod Labels
 pub mod Names
@@ -18,6 +20,8 @@ pub mod Routine
 pub mod Rules
 pub mod Sight
 pub mod Statement
+pub mod Stage
+pub mod StatementForms
 pub mod Statements
 pub mod TypeExpr
 pub mod Writes

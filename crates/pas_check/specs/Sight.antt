@@ -16,8 +16,9 @@ use Rattle.pas_check.specs.declared.seen.Seen.{Seen}
 use Rattle.pas_check.specs.Labels.{Labelled, labelled}
 use Rattle.pas_check.specs.Names.{Names, denoted, name_at}
 
--- a procedure or a function as its callers see it
+-- a procedure or a function as its callers see it, by its number
 pub record Heading : Type 0 where
+  pub routine : ℕ
   pub formals : List Formal
   -- the variable for the result of a function
   pub result : Option Variable
@@ -43,7 +44,7 @@ pub record Sight : Type 0 where
   pub assigned : ℕ → Bool
 
 abbrev pub heading_of : Head → Heading
-heading_of h = record { formals = h.formals.items; result = h.result }
+heading_of h = record { routine = h.routine; formals = h.formals.items; result = h.result }
 
 abbrev pub names_around : List Scope → List Names
 names_around scopes = map (λ (s : Scope). s.names) (reverse scopes)

@@ -1,8 +1,10 @@
 //! Variables with their subscripts (ISO 7185, 6.5).
 
-ghost use Rattle.std.specs.Prelude.{◌≡◌, OnOk, Some, map};
+ghost use Rattle.std.specs.Prelude.{◌≡◌, IfOk, OnOk, Some, map};
 ghost use Rattle.pas_check.specs.Expr as spec;
 ghost use Rattle.pas_check.specs.Expr.{access_found, found, found_writes, place_of};
+ghost use Rattle.pas_check.specs.Forms as forms;
+ghost use Rattle.pas_check.specs.Forms.{access_form, expr_form, operand_form, reached_form};
 ghost use Rattle.pas_check.specs.Outcome.{Gives};
 ghost use Rattle.pas_check.specs.Sight.{host_at, sight};
 ghost use Rattle.pas_check.specs.Written.{written, writes_in_turn};
@@ -30,6 +32,7 @@ impl<'t> Seen<'t> {
     pub fn variable_named(&self, made: &mut Made, name: Span) -> Result<Variable, Fault>
         ensures value { Gives (λ x. x) (spec.variable_named (sight self.now) name) result }
         ensures writes { written made.new ≡ written made.old }
+        ensures kept { made.new.built ≡ made.old.built }
     {
         match self.meaning(made, name)? {
             Meaning::Variable(variable) => Ok(variable),
@@ -43,6 +46,7 @@ impl<'t> Seen<'t> {
     pub fn access(&self, made: &mut Made, access: &pas_tree::Access) -> Result<Reached, Fault>
         ensures value { Gives place_of (access_found (sight self.now) access.now).place result }
         ensures writes { OnOk result (written made.new ≡ (access_found (sight self.now) access.now).writes (written made.old)) }
+        ensures form { IfOk result (λ r. access_form (sight self.now) access.now made.old.built ≡ Some (r, made.new.built)) }
     {
         let variable = self.variable_named(made, access.name)?;
         self.reached(made, variable, access.name, access.subscripts.as_slice())
@@ -60,6 +64,7 @@ impl<'t> Seen<'t> {
     ) -> Result<Reached, Fault>
         ensures value { Gives place_of (spec.reached (sight self.now) variable (map (found (sight self.now)) subscripts.now)) result }
         ensures writes { OnOk result (written made.new ≡ writes_in_turn found_writes (map (found (sight self.now)) subscripts.now) (written made.old)) }
+        ensures form { IfOk result (λ r. reached_form (sight self.now) variable name.start (map (expr_form (sight self.now)) subscripts.now) made.old.built ≡ Some (r, made.new.built)) }
     {
         let mut of_type = variable.of_type;
         let mut list = Items::new(self.alloc);
@@ -88,7 +93,8 @@ impl<'t> Seen<'t> {
 
     /// A variable without subscripts.
     pub fn alone(&self, variable: Variable, name: Span) -> Reached
-        ensures { place_of result ≡ record { of_type = variable.of_type; itself = Some variable } }
+        ensures place { place_of result ≡ record { of_type = variable.of_type; itself = Some variable } }
+        ensures form { result ≡ forms.alone variable name.start }
     {
         Reached {
             access: Access {
@@ -112,6 +118,7 @@ impl<'t> Seen<'t> {
     ) -> Result<Expr, Fault>
         ensures value { Gives (λ e. tt) (spec.subscript (sight self.now) (found (sight self.now) subscript.now) index) result }
         ensures writes { OnOk result (written made.new ≡ (found (sight self.now) subscript.now).writes (written made.old)) }
+        ensures form { IfOk result (λ r. operand_form (expr_form (sight self.now) subscript.now) made.old.built ≡ Some (r, made.new.built)) }
     {
         let at = self.first(subscript);
         match self.expr(made, subscript)? {

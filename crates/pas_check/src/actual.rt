@@ -1,9 +1,10 @@
 //! Actual parameters (ISO 7185, 6.6.3).
 
-ghost use Rattle.std.specs.Prelude.{◌≡◌, [], ◌∷◌, ◌++◌, IfErr, IfOk, OnOk, map};
+ghost use Rattle.std.specs.Prelude.{◌≡◌, [], ◌∷◌, ◌++◌, IfErr, IfOk, OnOk, Some, map};
 ghost use Rattle.pas_tree.specs.declared.expr.ActualValue.TheVariants as actual_value;
 ghost use Rattle.pas_check.specs.Expr as spec;
 ghost use Rattle.pas_check.specs.Expr.{all_passed, expression_by, formals_at, found, given, place_of};
+ghost use Rattle.pas_check.specs.Forms.{all_passed_form, alone_meant, expr_form, expression_form, given_form, passed_by_value_form, passed_by_var_form, passed_form, passed_to_form};
 ghost use Rattle.pas_check.specs.Outcome.{Gives, IsMemory};
 ghost use Rattle.pas_check.specs.Sight.{sight};
 ghost use Rattle.pas_check.specs.Written.{writes_whole, written};
@@ -34,6 +35,7 @@ impl<'t> Seen<'t> {
     ) -> Result<&'e pas_tree::Expr, Fault>
         ensures written { IfOk result (λ value. actual.now.value ≡ actual_value.Value value.now) }
         ensures value { Gives (λ e. found (sight self.now) e.now) (expression_by (given (sight self.now) actual.now).value) result }
+        ensures form { IfOk result (λ e. expression_form (given_form (sight self.now) actual.now).value ≡ Some (expr_form (sight self.now) e.now)) }
     {
         match &actual.value {
             ActualValue::Value(value) => Ok(value),
@@ -62,6 +64,7 @@ impl<'t> Seen<'t> {
     ) -> Result<Items<Actual>, Fault>
         ensures value { Gives (λ list. tt) (all_passed (sight self.now) (formals_at (sight self.now) head) (map (given (sight self.now)) actuals.now)) result }
         ensures writes { OnOk result (written made.new ≡ spec.all_passed_writes (sight self.now) (formals_at (sight self.now) head) (map (given (sight self.now)) actuals.now) (written made.old)) }
+        ensures form { IfOk result (λ r. all_passed_form (formals_at (sight self.now) head) (map (given_form (sight self.now)) actuals.now) made.old.built ≡ Some (r, made.new.built)) }
     {
         let mut list = Items::new(self.alloc);
         for (k, actual) in actuals.iter().enumerate() {
@@ -82,6 +85,7 @@ impl<'t> Seen<'t> {
     ) -> Result<Actual, Fault>
         ensures value { Gives (λ a. tt) (spec.passed (sight self.now) formal (given (sight self.now) actual.now)) result }
         ensures writes { OnOk result (written made.new ≡ spec.passed_writes (sight self.now) formal (given (sight self.now) actual.now) (written made.old)) }
+        ensures form { IfOk result (λ r. passed_form formal (given_form (sight self.now) actual.now) made.old.built ≡ Some (r, made.new.built)) }
     {
         let value = self.value_actual(actual)?;
         let Some(formal) = formal else {
@@ -101,6 +105,7 @@ impl<'t> Seen<'t> {
     ) -> Result<Actual, Fault>
         ensures value { Gives (λ a. tt) (spec.passed_to (sight self.now) formal (found (sight self.now) value.now)) result }
         ensures writes { OnOk result (written made.new ≡ spec.passed_writes_by (sight self.now) (Some formal) (found (sight self.now) value.now) (written made.old)) }
+        ensures form { IfOk result (λ r. passed_to_form formal (expr_form (sight self.now) value.now) made.old.built ≡ Some (r, made.new.built)) }
     {
         if formal.by_var {
             self.passed_by_var(made, value, formal.of_type)
@@ -119,6 +124,7 @@ impl<'t> Seen<'t> {
     ) -> Result<Actual, Fault>
         ensures value { Gives (λ a. tt) (spec.passed_by_value (sight self.now) (found (sight self.now) value.now) of_type) result }
         ensures writes { OnOk result (written made.new ≡ (found (sight self.now) value.now).writes (written made.old)) }
+        ensures form { IfOk result (λ r. passed_by_value_form (expr_form (sight self.now) value.now) made.old.built ≡ Some (r, made.new.built)) }
     {
         match self.expr(made, value)? {
             Typed::Scalar { expr, boolean } if self.is_host(of_type, boolean) => {
@@ -142,6 +148,7 @@ impl<'t> Seen<'t> {
     ) -> Result<Actual, Fault>
         ensures value { Gives (λ a. tt) (spec.passed_by_var (sight self.now) (found (sight self.now) value.now) of_type) result }
         ensures writes { OnOk result (written made.new ≡ spec.variable_writes (sight self.now) (found (sight self.now) value.now) (written made.old)) }
+        ensures form { IfOk result (λ r. passed_by_var_form (expr_form (sight self.now) value.now) made.old.built ≡ Some (r, made.new.built)) }
     {
         let reached = self.variable_of(made, value)?;
         if reached.of_type != of_type {
@@ -157,6 +164,7 @@ impl<'t> Seen<'t> {
     pub fn variable_of(&self, made: &mut Made, value: &pas_tree::Expr) -> Result<Reached, Fault>
         ensures value { Gives place_of (found (sight self.now) value.now).variable result }
         ensures writes { OnOk result (written made.new ≡ (found (sight self.now) value.now).writes (written made.old)) }
+        ensures form { IfOk result (λ r. (expr_form (sight self.now) value.now).variable made.old.built ≡ Some (r, made.new.built)) }
     {
         match value {
             pas_tree::Expr::Indexed { access, .. } => self.access(made, access),
@@ -182,6 +190,7 @@ impl<'t> Seen<'t> {
     #[tactic(auto, unfolding(crate::specs::Expr::variable_by))]
     fn variable_meant(&self, meaning: Meaning, name: Span) -> Result<Reached, Fault>
         ensures value { Gives place_of (spec.variable_by (sight self.now) meaning name.start) result }
+        ensures form { IfOk result (λ r. alone_meant meaning name.start ≡ Some r) }
     {
         match meaning {
             Meaning::Variable(variable) => Ok(self.alone(variable, name)),
@@ -198,6 +207,7 @@ impl<'t> Seen<'t> {
     pub fn threaten(&self, made: &mut Made, whole: Option<Variable>, at: u32) -> Result<(), Fault>
         ensures value { Gives (λ u. u) (spec.threatened (sight self.now) whole at) result }
         ensures writes { OnOk result (written made.new ≡ writes_whole (sight self.now).level whole (written made.old)) }
+        ensures kept { made.new.built ≡ made.old.built }
     {
         let Some(variable) = whole else {
             return Ok(());
@@ -217,6 +227,7 @@ impl<'t> Seen<'t> {
 fn mark(made: &mut Made, variable: Variable) -> Result<(), Fault>
     ensures threats { OnOk result (written made.new ≡ record (written made.old) { threats = (written made.old).threats ++ variable.at ∷ [] }) }
     ensures memory { IfErr result IsMemory }
+    ensures kept { made.new.built ≡ made.old.built }
 {
     match made.threats.push(variable.at) {
         Ok(()) => Ok(()),

@@ -1,14 +1,18 @@
 //! Blocks and their declarations (ISO 7185, 6.2).
 
-ghost use Rattle.std.specs.Prelude.{◌≡◌, ℕ, List, IfErr, IfOk, Ok, OnOk};
+ghost use Rattle.std.specs.Prelude.{◌≡◌, ℕ, List, IfErr, IfOk, OnOk, Some, length};
 ghost use Rattle.std.specs.Option.{option_map};
 ghost use Rattle.pas_check.specs.Blocks as spec;
-ghost use Rattle.pas_check.specs.Blocks.{BeginsMay, BlockMay, PartsMay, block_ended, bodies_given, entered, lacking_by, own_block, program_opening, statements_ended};
-ghost use Rattle.pas_check.specs.Declarations.{InTurn, IsLocal, VarMay, const_declared, led_by, type_declared};
-ghost use Rattle.pas_check.specs.Headings.{Opening, inside, opening_of, outside};
+ghost use Rattle.pas_check.specs.Blocks.{BeginsMay, BlockMay, EndMay, bodies_given, entered, lacking_by, outer_of, own_block, parts, program_frame, program_opened, statements_ended};
+ghost use Rattle.pas_check.specs.Built.{with_routine};
+ghost use Rattle.pas_check.specs.Declarations.{const_declared, led, led_by, local_declared, type_declared, var_declared};
+ghost use Rattle.pas_check.specs.Headings.{inside, outside};
 ghost use Rattle.pas_check.specs.Labels.{labelled};
 ghost use Rattle.pas_check.specs.Outcome.{Gives, IsMemory, Meets};
-ghost use Rattle.pas_check.specs.Sight.{Sight, innermost, sight};
+ghost use Rattle.pas_check.specs.Sight.{innermost, sight};
+ghost use Rattle.pas_check.specs.Stage.{Stage, stage};
+ghost use Rattle.pas_check.specs.StatementForms.{sequence_form};
+ghost use Rattle.pas_check.specs.declared.heading.Opened.{Opened as Begun};
 ghost use Rattle.pas_tree.specs.declared.block.RoutineBody.TheViews.{out-Block};
 
 use crate::checker::Checker;
@@ -37,12 +41,12 @@ struct Outer {
 impl<'t> Checker<'t> {
     /// The program's block.
     pub fn program(&mut self, tree: &Tree) -> Result<(), Fault>
-        ensures value { Meets (λ u. sight self.new.seen) (BlockMay (sight self.old.seen) (program_opening (sight self.old.seen).text tree.now.block) tree.now.block) result }
+        ensures value { Meets (λ u. stage self.new) (BlockMay (stage self.old) (program_opened (sight self.old.seen).text tree.now (program_frame tree.now self.old.made.built.frame.routine)) tree.now.block) result }
     {
-        let routine = self.made.frame.routine;
+        let routine = self.made.built.frame.routine;
         let mut scope = Scope::new(self.seen.alloc, routine);
         self.seen
-            .note_block(&mut self.made, &mut scope, &tree.block)?;
+            .note_block(&mut self.made.lower, &mut scope, &tree.block)?;
         let no_formals = Items::new(self.seen.alloc);
         let opened = Opened {
             frame: Frame::new(
@@ -61,34 +65,25 @@ impl<'t> Checker<'t> {
         self.block(&tree.block, opened)
     }
 
-    fn add_routine(&mut self, done: Frame, body: Statement) -> Result<(), Fault>
-        ensures kept { self.new.seen ≡ self.old.seen }
-        ensures memory { IfErr result IsMemory }
-    {
-        let vars = done.variables(self.seen.alloc).map_err(Fault::Memory)?;
-        self.made
-            .routines
-            .push(done.finish(vars, body))
-            .map_err(Fault::Memory)
-    }
-
     /// The block of an opening, whose routine is made.
     #[cycle(block)]
     pub fn block(&mut self, block: &Block, opened: Opened) -> Result<(), Fault>
-        ensures value { Meets (λ u. sight self.new.seen) (BlockMay (sight self.old.seen) (opening_of opened) block.now) result }
+        ensures value { Meets (λ u. stage self.new) (BlockMay (stage self.old) opened block.now) result }
     {
         let function = opened.result;
         let outer = self.begin(block, opened)?;
-        let mut plans = self.seen.plans(&mut self.made, block.routines.as_slice())?;
+        let first = u32::try_from(self.made.built.routines.len()).unwrap_or(u32::MAX);
+        let routines = block.routines.as_slice();
+        let mut plans = self.seen.plans(&mut self.made.lower, first, routines)?;
         let mut waiting = Waiting::new(self.seen.alloc);
-        self.routine_part(block.routines.as_slice(), &mut plans.list, &mut waiting)?;
+        self.routine_part(routines, &mut plans.list, &mut waiting)?;
         self.end(block, function, plans.lacking, outer)
     }
 
     /// The block of an opening, up to its routines.
     fn begin(&mut self, block: &Block, opened: Opened) -> Result<Outer, Fault>
-        ensures value { Meets (λ o. sight self.new.seen) (BeginsMay (sight self.old.seen) (opening_of opened) block.now) result }
-        ensures level { IfOk result (λ o. o.level ≡ (sight self.old.seen).level) }
+        ensures value { Meets (λ o. stage self.new) (BeginsMay (stage self.old) opened block.now) result }
+        ensures outer { IfOk result (λ o. o ≡ outer_of (stage self.old)) }
     {
         let labels = labels_of(self.seen.alloc, block)?;
         let outer = self.enter(opened, labels)?;
@@ -99,8 +94,8 @@ impl<'t> Checker<'t> {
     /// Goes into the block of an opening, with its labels.
     #[tactic(auto, unfolding(crate::specs::Sight::sight))]
     fn enter(&mut self, opened: Opened, labels: IndexMap<u32, LabelDecl>) -> Result<Outer, Fault>
-        ensures entered { OnOk result (sight self.new.seen ≡ entered (sight self.old.seen) (opening_of opened) (own_block (opening_of opened) opened.frame.routine labels)) }
-        ensures level { IfOk result (λ o. o.level ≡ (sight self.old.seen).level) }
+        ensures entered { OnOk result (stage self.new ≡ entered (stage self.old) opened (own_block opened labels)) }
+        ensures outer { IfOk result (λ o. o ≡ outer_of (stage self.old)) }
         ensures memory { IfErr result IsMemory }
     {
         let Opened {
@@ -116,13 +111,13 @@ impl<'t> Checker<'t> {
             labels,
         })?;
         let level = mem::replace(&mut self.seen.level, frame.level);
-        let frame = mem::replace(&mut self.made.frame, frame);
+        let frame = mem::replace(&mut self.made.built.frame, frame);
         Ok(Outer { frame, level })
     }
 
     /// The parts of a block before its routines.
     fn parts(&mut self, block: &Block) -> Result<(), Fault>
-        ensures value { Meets (λ u. sight self.new.seen) (PartsMay (sight self.old.seen) block.now) result }
+        ensures value { Gives (λ u. stage self.new) (parts (stage self.old) block.now) result }
     {
         self.const_part(block.consts.as_slice())?;
         self.type_part(block.types.as_slice())?;
@@ -137,19 +132,19 @@ impl<'t> Checker<'t> {
         lacking: Option<u32>,
         outer: Outer,
     ) -> Result<(), Fault>
-        ensures value { (v : Sight) → (p : Opening) → (text : List ℕ) → v.level ≡ outer.level → p.result ≡ function → lacking_by lacking ≡ bodies_given text (out-Block block.now).routines
-            → Gives (λ u. sight self.new.seen) (block_ended v p block.now text (sight self.old.seen)) result }
+        ensures value { (s : Stage) → (p : Begun) → (text : List ℕ) → outer ≡ outer_of s → p.result ≡ function → lacking_by lacking ≡ bodies_given text (out-Block block.now).routines
+            → Meets (λ u. stage self.new) (EndMay s p block.now text (stage self.old)) result }
     {
         let body = self.statement_part(block.body.as_slice())?;
         self.end_allowed(block, function, lacking)?;
-        self.leave(outer, statement_of(self.seen.alloc, block, body))?;
-        Ok(())
+        self.leave(outer, statement_of(self.seen.alloc, block, body))
     }
 
     /// The statement part of a block.
     #[tactic(auto, unfolding(crate::specs::Blocks::statements_ended))]
     fn statement_part(&mut self, body: &[pas_tree::Statement]) -> Result<Items<Statement>, Fault>
         ensures value { Gives (λ list. sight self.new.seen) (statements_ended (sight self.old.seen) body.now) result }
+        ensures form { IfOk result (λ list. sequence_form (sight self.old.seen) body.now self.old.made.built ≡ Some (list, self.new.made.built)) }
     {
         self.made.begin_statements();
         let body = self.sequence(body)?;
@@ -179,17 +174,23 @@ impl<'t> Checker<'t> {
     #[tactic(auto, unfolding(crate::specs::Sight::sight))]
     fn leave(&mut self, outer: Outer, body: Statement) -> Result<(), Fault>
         ensures left { OnOk result (sight self.new.seen ≡ record (outside (sight self.old.seen)) { level = outer.level }) }
+        ensures number { OnOk result (self.old.made.built.frame.routine ≡ length self.old.made.built.routines) }
+        ensures built { OnOk result (self.new.made.built ≡ with_routine self.old.made.built.frame body (record self.old.made.built { frame = outer.frame })) }
         ensures memory { IfErr result IsMemory }
     {
         let Outer { frame, level } = outer;
         let _names = self.pop_scope(0);
         self.seen.level = level;
-        let done = mem::replace(&mut self.made.frame, frame);
-        self.add_routine(done, body)
+        let done = mem::replace(&mut self.made.built.frame, frame);
+        match self.made.built.add_routine(self.seen.alloc, done, body) {
+            Ok(()) => Ok(()),
+            Err(error) => Err(Fault::Memory(error)),
+        }
     }
 
     fn const_part(&mut self, decls: &[ConstDecl]) -> Result<(), Fault>
         ensures value { Gives (λ u. sight self.new.seen) (led_by const_declared (sight self.old.seen) decls.now) result }
+        ensures kept { self.new.made.built ≡ self.old.made.built }
     {
         for decl in decls {
             self.const_declared(decl)?;
@@ -200,6 +201,7 @@ impl<'t> Checker<'t> {
     #[tactic(auto, unfolding(crate::specs::Declarations::const_declared))]
     fn const_declared(&mut self, decl: &ConstDecl) -> Result<(), Fault>
         ensures value { Gives (λ u. sight self.new.seen) (const_declared (sight self.old.seen) decl.now) result }
+        ensures kept { self.new.made.built ≡ self.old.made.built }
     {
         self.seen.claim(&mut self.made, decl.name)?;
         let value = self.seen.constant(&mut self.made, &decl.value)?;
@@ -209,6 +211,7 @@ impl<'t> Checker<'t> {
 
     fn type_part(&mut self, decls: &[TypeDecl]) -> Result<(), Fault>
         ensures value { Gives (λ u. sight self.new.seen) (led_by type_declared (sight self.old.seen) decls.now) result }
+        ensures kept { self.new.made.built ≡ self.old.made.built }
     {
         for decl in decls {
             self.type_declared(decl)?;
@@ -219,6 +222,7 @@ impl<'t> Checker<'t> {
     #[tactic(auto, unfolding(crate::specs::Declarations::type_declared))]
     fn type_declared(&mut self, decl: &TypeDecl) -> Result<(), Fault>
         ensures value { Gives (λ u. sight self.new.seen) (type_declared (sight self.old.seen) decl.now) result }
+        ensures kept { self.new.made.built ≡ self.old.made.built }
     {
         self.seen.claim(&mut self.made, decl.name)?;
         let number = self.type_expr(&decl.of_type)?;
@@ -227,7 +231,7 @@ impl<'t> Checker<'t> {
     }
 
     fn var_part(&mut self, decls: &[VarDecl]) -> Result<(), Fault>
-        ensures value { Meets (λ u. sight self.new.seen) (InTurn VarMay (sight self.old.seen) decls.now) result }
+        ensures value { Gives (λ u. stage self.new) (led_by var_declared (stage self.old) decls.now) result }
     {
         for decl in decls {
             self.var_declared(decl)?;
@@ -237,7 +241,7 @@ impl<'t> Checker<'t> {
 
     /// The variables of a section.
     fn var_declared(&mut self, decl: &VarDecl) -> Result<(), Fault>
-        ensures value { Meets (λ u. sight self.new.seen) (VarMay (sight self.old.seen) decl.now) result }
+        ensures value { Gives (λ u. stage self.new) (var_declared (stage self.old) decl.now) result }
     {
         let names = decl.names.as_slice();
         self.claim_names(names)?;
@@ -247,7 +251,7 @@ impl<'t> Checker<'t> {
     }
 
     fn locals(&mut self, names: &[Span], of_type: u32) -> Result<(), Fault>
-        ensures value { OnOk result (InTurn (IsLocal of_type) (sight self.old.seen) names.now (Ok (sight self.new.seen))) }
+        ensures value { OnOk result (stage self.new ≡ led (local_declared of_type) (stage self.old) names.now) }
         ensures memory { IfErr result IsMemory }
     {
         for name in names {
@@ -258,10 +262,10 @@ impl<'t> Checker<'t> {
 
     /// A variable of the block at hand.
     fn local(&mut self, name: Span, of_type: u32) -> Result<(), Fault>
-        ensures value { OnOk result (IsLocal of_type (sight self.old.seen) name (Ok (sight self.new.seen))) }
+        ensures value { OnOk result (stage self.new ≡ local_declared of_type (stage self.old) name) }
         ensures memory { IfErr result IsMemory }
     {
-        let number = self.made.add_own(name, VarKind::Local, of_type)?;
+        let number = self.made.built.add_own(name, VarKind::Local, of_type)?;
         let variable = Variable {
             number,
             at: name.start,
@@ -278,6 +282,7 @@ impl<'t> Checker<'t> {
     #[tactic(auto, unfolding(crate::specs::Sight::sight))]
     pub fn push_scope(&mut self, scope: Scope) -> Result<(), Fault>
         ensures inside { OnOk result (sight self.new.seen ≡ inside (sight self.old.seen) scope.names (labelled scope)) }
+        ensures kept { self.new.made ≡ self.old.made }
         ensures memory { IfErr result IsMemory }
     {
         match self.seen.scopes.push(scope) {
@@ -291,6 +296,7 @@ impl<'t> Checker<'t> {
     pub fn pop_scope(&mut self, number: u32) -> Scope
         ensures names { result.names ≡ innermost (sight self.old.seen).blocks }
         ensures outside { sight self.new.seen ≡ outside (sight self.old.seen) }
+        ensures kept { self.new.made ≡ self.old.made }
     {
         match self.seen.scopes.pop() {
             Some(scope) => scope,
@@ -300,7 +306,9 @@ impl<'t> Checker<'t> {
 }
 
 /// The statement part of a block as one statement.
-fn statement_of(alloc: Global, block: &Block, body: Items<Statement>) -> Statement {
+fn statement_of(alloc: Global, block: &Block, body: Items<Statement>) -> Statement
+    ensures { result ≡ spec.statement_of block.now body }
+{
     Statement {
         at: block.begin.start,
         label: None,

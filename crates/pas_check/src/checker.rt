@@ -1,6 +1,7 @@
 ghost use Rattle.std.specs.Prelude.{◌≡◌, [], IfErr, IfOk, OnOk, length, map, true};
-ghost use Rattle.pas_check.specs.Accepted.{IsUnbroken};
-ghost use Rattle.pas_check.specs.Blocks.{HasNone, IsAtFirst, IsSound, IsSoundFault, all_ended, at_first, required};
+ghost use Rattle.pas_check.specs.Accepted.{IsProgramOf};
+ghost use Rattle.pas_check.specs.Blocks.{HasNone, IsAtFirst, IsSound, IsSoundFault, all_ended, at_first, program_frame, required};
+ghost use Rattle.pas_check.specs.Built.{nothing_built};
 ghost use Rattle.pas_check.specs.Fault.{IsWithin};
 ghost use Rattle.pas_check.specs.Headings.{inside};
 ghost use Rattle.pas_check.specs.Labels.{Labelled, labelled};
@@ -9,6 +10,7 @@ ghost use Rattle.pas_check.specs.Sight.{sight};
 ghost use Rattle.pas_program.specs.Checked.{tables};
 ghost use Rattle.pas_program.specs.Labels.{AssertsStand, ConstantsDiffer, ControlsAreLocal, LabelsStand};
 
+use crate::built::Built;
 use crate::fault::{CheckFault, Fault};
 use crate::frame::Frame;
 use crate::meaning::{Meaning, Required, Transput, Value};
@@ -38,7 +40,7 @@ pub struct Checker<'t> {
 pub fn check(alloc: Global, text: &[u8], tree: &Tree) -> Result<Program, CheckFault>
     ensures fault { IfErr result (λ e. IsWithin (length text.now) e) }
     ensures sound { IfErr result (λ e. IsSound text.now tree.now e) }
-    ensures unbroken { OnOk result (IsUnbroken text.now tree.now) }
+    ensures program { IfOk result (λ p. IsProgramOf text.now tree.now p) }
     ensures controls { IfOk result (λ p. ControlsAreLocal (tables p) p.routines) }
     ensures labels { IfOk result (λ p. LabelsStand p.routines) }
     ensures constants { IfOk result (λ p. ConstantsDiffer p.routines) }
@@ -52,7 +54,7 @@ pub fn check(alloc: Global, text: &[u8], tree: &Tree) -> Result<Program, CheckFa
 
 fn checked(alloc: Global, text: &[u8], tree: &Tree) -> Result<Program, Fault>
     ensures sound { IfErr result (λ e. IsSoundFault text.now tree.now e) }
-    ensures unbroken { OnOk result (IsUnbroken text.now tree.now) }
+    ensures program { IfOk result (λ p. IsProgramOf text.now tree.now p) }
     ensures controls { IfOk result (λ p. ControlsAreLocal (tables p) p.routines) }
     ensures labels { IfOk result (λ p. LabelsStand p.routines) }
     ensures constants { IfOk result (λ p. ConstantsDiffer p.routines) }
@@ -87,12 +89,11 @@ impl<'t> Seen<'t> {
 
 impl Made {
     /// Nothing is made so far.
-    fn new(alloc: Global, frame: Frame) -> Made {
+    fn new(alloc: Global, frame: Frame) -> Made
+        ensures { result.built ≡ nothing_built frame }
+    {
         Made {
-            vars: Items::new(alloc),
-            routines: Items::new(alloc),
-            asserts: Items::new(alloc),
-            frame,
+            built: Built::new(alloc, frame),
             threats: Vec::new(alloc),
             assigned: Vec::new(alloc),
             lower: Vec::new(alloc),
@@ -103,6 +104,7 @@ impl Made {
 impl<'t> Checker<'t> {
     fn new(alloc: Global, text: &'t [u8], tree: &Tree) -> Result<Checker<'t>, Fault>
         ensures first { IfOk result (λ c. IsAtFirst text.now (sight c.seen)) }
+        ensures nothing { IfOk result (λ c. c.made.built ≡ nothing_built (program_frame tree.now c.made.built.frame.routine)) }
         ensures memory { IfErr result IsMemory }
     {
         let number = count_bodies(&tree.block);
@@ -120,6 +122,10 @@ impl<'t> Checker<'t> {
 
     fn into_program(self) -> Result<Program, Fault>
         ensures memory { IfErr result IsMemory }
+        ensures types { IfOk result (λ p. p.types ≡ (sight self.seen).types) }
+        ensures vars { IfOk result (λ p. p.vars ≡ self.made.built.vars) }
+        ensures routines { IfOk result (λ p. p.routines ≡ self.made.built.routines) }
+        ensures asserts { IfOk result (λ p. p.asserts ≡ self.made.built.asserts) }
         ensures controls { IfOk result (λ p. ControlsAreLocal (tables p) p.routines) }
         ensures labels { IfOk result (λ p. LabelsStand p.routines) }
         ensures constants { IfOk result (λ p. ConstantsDiffer p.routines) }
@@ -128,12 +134,12 @@ impl<'t> Checker<'t> {
         let Checker { seen, made } = self;
         let alloc = seen.alloc;
         let types = seen.types.into_list();
-        let Made {
+        let Built {
             vars,
             routines,
             asserts,
             ..
-        } = made;
+        } = made.built;
         match program_of(alloc, types, vars, routines, asserts) {
             Ok(Some(program)) => Ok(program),
             Ok(None) => Err(Fault::Memory(AllocError)),

@@ -1,11 +1,12 @@
 //! The `case` statement (ISO 7185, 6.8.3.5).
 
-ghost use Rattle.std.specs.Prelude.{◌≡◌, [], ◌∷◌, ◌++◌, false, IfOk, OnOk, map};
+ghost use Rattle.std.specs.Prelude.{◌≡◌, [], ◌∷◌, ◌++◌, false, IfOk, OnOk, Some, map};
 ghost use Rattle.indexmap.specs.IndexMap.{keys};
 ghost use Rattle.pas_check.specs.Outcome.{Gives};
 ghost use Rattle.pas_check.specs.Rules.{is_double};
 ghost use Rattle.pas_check.specs.Sight.{sight};
 ghost use Rattle.pas_check.specs.Statement as spec;
+ghost use Rattle.pas_check.specs.StatementForms.{arm_form, arms_form, constant_value, constants_form};
 ghost use Rattle.pas_check.specs.Statements.{arms_in_turn, case_constants, stated_arm};
 ghost use Rattle.pas_check.specs.Writes.{arm_writes, in_turn_writes};
 ghost use Rattle.pas_check.specs.Written.{written};
@@ -26,6 +27,7 @@ impl<'t> Checker<'t> {
         ensures value { Gives (λ list. tt) (arms_in_turn (sight self.old.seen) boolean [] (map stated_arm arms.now)) result }
         ensures kept { OnOk result (sight self.new.seen ≡ sight self.old.seen) }
         ensures writes { OnOk result (written self.new.made ≡ in_turn_writes (map arm_writes arms.now) (sight self.old.seen) (written self.old.made)) }
+        ensures form { IfOk result (λ r. arms_form (map arm_form arms.now) (sight self.old.seen) self.old.made.built ≡ Some (r, self.new.made.built)) }
     {
         let mut before = IndexMap::new(self.seen.alloc);
         let mut list = Items::new(self.seen.alloc);
@@ -54,6 +56,8 @@ impl<'t> Seen<'t> {
     ) -> Result<Items<i32>, Fault>
         ensures value { Gives (λ values. keys before.new) (case_constants (sight self.now) boolean (keys before.old) constants.now) result }
         ensures writes { OnOk result (written made.new ≡ written made.old) }
+        ensures form { IfOk result (λ values. constants_form (sight self.now) constants.now ≡ Some values) }
+        ensures kept { made.new.built ≡ made.old.built }
     {
         let mut values = Items::new(self.alloc);
         for constant in constants {
@@ -75,6 +79,8 @@ impl<'t> Seen<'t> {
         ensures value { Gives (λ z. z) (spec.case_constant (sight self.now) (keys before.now) boolean constant.now) result }
         ensures writes { OnOk result (written made.new ≡ written made.old) }
         ensures new { IfOk result (λ z. is_double z (keys before.now) ≡ false) }
+        ensures form { IfOk result (λ z. constant_value (sight self.now) constant.now ≡ Some z) }
+        ensures kept { made.new.built ≡ made.old.built }
     {
         let value = self.constant(made, constant)?;
         if value.boolean != boolean {

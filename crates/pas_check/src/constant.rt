@@ -29,6 +29,7 @@ impl<'t> Seen<'t> {
     pub fn constant(&self, made: &mut Made, constant: &Constant) -> Result<Value, Fault>
         ensures value { Gives (λ x. x) (spec.constant (sight self.now) constant.now) result }
         ensures writes { written made.new ≡ written made.old }
+        ensures kept { made.new.built ≡ made.old.built }
     {
         let value = self.unsigned(made, constant.value)?;
         match constant.sign {
@@ -48,6 +49,7 @@ impl<'t> Seen<'t> {
     fn unsigned(&self, made: &mut Made, value: ConstantValue) -> Result<Value, Fault>
         ensures value { Gives (λ x. x) (spec.unsigned (sight self.now) value) result }
         ensures writes { written made.new ≡ written made.old }
+        ensures kept { made.new.built ≡ made.old.built }
     {
         match value {
             ConstantValue::Number(value) => Ok(Value {
@@ -63,6 +65,7 @@ impl<'t> Seen<'t> {
     fn constant_named(&self, made: &mut Made, name: Span) -> Result<Value, Fault>
         ensures value { Gives (λ x. x) (spec.constant_named (sight self.now) name) result }
         ensures writes { written made.new ≡ written made.old }
+        ensures kept { made.new.built ≡ made.old.built }
     {
         match self.meaning(made, name)? {
             Meaning::Constant(value) => Ok(value),

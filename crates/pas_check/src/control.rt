@@ -1,14 +1,16 @@
 //! Control variables (ISO 7185, 6.8.3.9).
 
-ghost use Rattle.std.specs.Prelude.{◌≡◌, false, OnOk};
+ghost use Rattle.std.specs.Prelude.{◌≡◌, false, IfOk, OnOk, Some};
 ghost use Rattle.pas_program.specs.Tables.{is_kind};
 ghost use Rattle.pas_program.specs.declared.variable.VarKind.TheVariants as kind;
 ghost use Rattle.pas_check.specs.Blocks.{written_in};
 ghost use Rattle.pas_check.specs.Control as spec;
 ghost use Rattle.pas_check.specs.Control.{all_threatened, threatens};
 ghost use Rattle.pas_check.specs.Expr.{found};
+ghost use Rattle.pas_check.specs.Forms.{expr_form};
 ghost use Rattle.pas_check.specs.Outcome.{Gives};
 ghost use Rattle.pas_check.specs.Sight.{Sight, sight};
+ghost use Rattle.pas_check.specs.StatementForms.{for_form, for_head_form, statement_form};
 ghost use Rattle.pas_check.specs.Statements.{for_head, over, stated};
 ghost use Rattle.pas_check.specs.Writes.{statement_writes};
 ghost use Rattle.pas_check.specs.Written.{written};
@@ -27,6 +29,7 @@ impl<'t> Seen<'t> {
     pub fn control(&self, made: &mut Made, name: Span) -> Result<(Variable, bool), Fault>
         ensures value { Gives (λ r. r) (spec.controlled (sight self.now) name) result }
         ensures writes { written made.new ≡ written made.old }
+        ensures kept { made.new.built ≡ made.old.built }
     {
         let meaning = self.meaning(made, name)?;
         self.control_meant(meaning, name.start)
@@ -90,9 +93,10 @@ impl<'t> Seen<'t> {
     ) -> Result<ForHead, Fault>
         ensures value { Gives (λ h. h.variable) (for_head (sight self.now) control (found (sight self.now) first.now) (found (sight self.now) last.now)) result }
         ensures writes { OnOk result (written made.new ≡ (found (sight self.now) last.now).writes ((found (sight self.now) first.now).writes (written made.old))) }
+        ensures form { IfOk result (λ r. for_head_form (sight self.now) control (expr_form (sight self.now) first.now) (expr_form (sight self.now) last.now) at made.old.built ≡ Some (r, made.new.built)) }
     {
         let (variable, boolean) = self.control(made, control)?;
-        let bound = made.add_own(at, VarKind::Bound, variable.of_type)?;
+        let bound = made.built.add_own(at, VarKind::Bound, variable.of_type)?;
         let first = self.of_host(made, first, boolean)?;
         let last = self.of_host(made, last, boolean)?;
         Ok(ForHead {
@@ -179,6 +183,7 @@ impl<'t> Checker<'t> {
         ensures value { Gives (λ b. tt) (stated body.now (over (sight self.old.seen) head.variable.at)) result }
         ensures kept { (sight self.old.seen).looping head.variable.at ≡ false → OnOk result (sight self.new.seen ≡ sight self.old.seen) }
         ensures writes { OnOk result (written self.new.made ≡ statement_writes body.now (over (sight self.old.seen) head.variable.at) (written self.old.made)) }
+        ensures form { IfOk result (λ r. for_form head down (statement_form body.now) (sight self.old.seen) self.old.made.built ≡ Some (r, self.new.made.built)) }
     {
         let ForHead {
             variable,
@@ -203,6 +208,7 @@ impl<'t> Checker<'t> {
     #[tactic(auto, unfolding(crate::specs::Written::written))]
     pub fn note_written(&mut self) -> Result<(), AllocError>
         ensures noted { OnOk result (sight self.new.seen ≡ written_in (sight self.old.seen) (written self.old.made)) }
+        ensures kept { self.new.made.built ≡ self.old.made.built }
     {
         self.seen.all_threatened(self.made.threats.as_slice())?;
         self.seen.all_assigned(self.made.assigned.as_slice())

@@ -1,10 +1,13 @@
 //! Expressions (ISO 7185, 6.7).
 
-ghost use Rattle.std.specs.Prelude.{◌≡◌, true, false, IfErr, IfOk, OnOk, map};
+ghost use Rattle.std.specs.Prelude.{◌≡◌, true, false, IfErr, IfOk, OnOk, Some, map};
 ghost use Rattle.std.specs.Option.{option_map};
 ghost use Rattle.pas_check.specs.Expr as spec;
 ghost use Rattle.pas_check.specs.Expr.{actual_writes, all_passed_writes, call_writes, formals_at, found, given, meant, scalar, type_of};
+ghost use Rattle.pas_check.specs.Forms as forms;
+ghost use Rattle.pas_check.specs.Forms.{alone_form, binary_form, call_form, constant_form, expr_form, function_form, given_form, named_form, operand_form, required_form, required_of_form, scalar_form, scalar_of, signed_form, unary_form, value_made};
 ghost use Rattle.pas_check.specs.Outcome.{Gives, IsBroken, IsMemory};
+ghost use Rattle.pas_program.specs.declared.expr.ExprForm.TheVariants as form;
 ghost use Rattle.pas_check.specs.Sight.{host_at, sight};
 ghost use Rattle.pas_check.specs.Written.{writes_in_turn, written};
 
@@ -30,7 +33,8 @@ pub enum Typed {
 impl Typed {
     /// A constant.
     fn constant(first: u32, boolean: bool, value: i32) -> Typed
-        ensures { type_of result ≡ scalar boolean }
+        ensures of_type { type_of result ≡ scalar boolean }
+        ensures form { result ≡ constant_form first boolean value }
     {
         Typed::Scalar {
             expr: Expr {
@@ -43,7 +47,8 @@ impl Typed {
 
     /// The same with its first token at `first`.
     fn begun_at(self, first: u32) -> Typed
-        ensures { type_of result ≡ type_of self }
+        ensures of_type { type_of result ≡ type_of self }
+        ensures form { result ≡ forms.begun_at first self }
     {
         match self {
             Typed::Scalar { expr, boolean } => {
@@ -85,7 +90,8 @@ fn gives_truth(op: BinOp) -> bool
 /// The operator of a required function at an operand of this host, and whether its result is Boolean; `None` where the
 /// operand has the wrong host.
 fn required_operator(function: Required, boolean: bool) -> Option<(UnOp, bool)>
-    ensures { option_map (λ p. p.1) result ≡ spec.required_gives function boolean }
+    ensures truth { option_map (λ p. p.1) result ≡ spec.required_gives function boolean }
+    ensures operator { result ≡ forms.required_operator function boolean }
 {
     match (function, boolean) {
         (Required::Abs, false) => Some((UnOp::Abs, false)),
@@ -107,6 +113,7 @@ impl<'t> Seen<'t> {
     pub fn expr(&self, made: &mut Made, e: &pas_tree::Expr) -> Result<Typed, Fault>
         ensures value { Gives type_of (found (sight self.now) e.now).value result }
         ensures writes { OnOk result (written made.new ≡ (found (sight self.now) e.now).writes (written made.old)) }
+        ensures form { IfOk result (λ r. (expr_form (sight self.now) e.now).value made.old.built ≡ Some (r, made.new.built)) }
     {
         match e {
             pas_tree::Expr::Number { value, span } => {
@@ -150,6 +157,7 @@ impl<'t> Seen<'t> {
     pub fn scalar(&self, made: &mut Made, e: &pas_tree::Expr) -> Result<(Expr, bool), Fault>
         ensures value { Gives (λ r. r.1) (spec.scalar_of (found (sight self.now) e.now)) result }
         ensures writes { OnOk result (written made.new ≡ (found (sight self.now) e.now).writes (written made.old)) }
+        ensures form { IfOk result (λ r. scalar_form (expr_form (sight self.now) e.now) made.old.built ≡ Some (r, made.new.built)) }
     {
         match self.expr(made, e)? {
             Typed::Scalar { expr, boolean } => Ok((expr, boolean)),
@@ -163,6 +171,7 @@ impl<'t> Seen<'t> {
     pub fn of_host(&self, made: &mut Made, e: &pas_tree::Expr, boolean: bool) -> Result<Expr, Fault>
         ensures value { Gives (λ x. tt) (spec.of_host boolean (found (sight self.now) e.now)) result }
         ensures writes { OnOk result (written made.new ≡ (found (sight self.now) e.now).writes (written made.old)) }
+        ensures form { IfOk result (λ r. operand_form (expr_form (sight self.now) e.now) made.old.built ≡ Some (r, made.new.built)) }
     {
         let (expr, host) = self.scalar(made, e)?;
         if host != boolean {
@@ -202,7 +211,8 @@ impl<'t> Seen<'t> {
     /// The value of a variable.
     #[tactic(auto, unfolding(crate::specs::Expr::value_at, crate::specs::Sight::sight))]
     pub fn value_of(&self, reached: Reached) -> Typed
-        ensures { type_of result ≡ spec.value_at (sight self.now) reached.of_type }
+        ensures of_type { type_of result ≡ spec.value_at (sight self.now) reached.of_type }
+        ensures form { result ≡ value_made (sight self.now) reached }
     {
         let Reached {
             access,
@@ -224,6 +234,7 @@ impl<'t> Seen<'t> {
     fn unary(&self, op: UnOp, operand: Expr, at: u32, boolean: bool) -> Result<Typed, Fault>
         ensures of_type { IfOk result (λ t. type_of t ≡ scalar boolean) }
         ensures memory { IfErr result IsMemory }
+        ensures form { IfOk result (λ t. t ≡ unary_form op operand at boolean) }
     {
         let of = Boxed::new(self.alloc, operand).map_err(Fault::Memory)?;
         Ok(Typed::Scalar {
@@ -238,6 +249,7 @@ impl<'t> Seen<'t> {
     fn signed(&self, sign: Sign, operand: Expr, at: u32) -> Result<Typed, Fault>
         ensures of_type { IfOk result (λ t. type_of t ≡ scalar false) }
         ensures memory { IfErr result IsMemory }
+        ensures form { IfOk result (λ t. t ≡ signed_form sign operand at) }
     {
         match sign {
             Sign::Minus => self.unary(UnOp::Neg, operand, at, false),
@@ -261,6 +273,7 @@ impl<'t> Seen<'t> {
     ) -> Result<(Expr, bool), Fault>
         ensures value { Gives (λ r. r.1) (spec.left_operand op (found (sight self.now) left.now)) result }
         ensures writes { OnOk result (written made.new ≡ (found (sight self.now) left.now).writes (written made.old)) }
+        ensures form { IfOk result (λ r. operand_form (expr_form (sight self.now) left.now) made.old.built ≡ Some (r.0, made.new.built)) }
     {
         match operand_host(op) {
             Some(host) => Ok((self.of_host(made, left, host)?, host)),
@@ -272,6 +285,7 @@ impl<'t> Seen<'t> {
     fn binary(&self, op: BinOp, left: Expr, right: Expr, at: u32) -> Result<Typed, Fault>
         ensures of_type { IfOk result (λ t. type_of t ≡ scalar (spec.gives_truth op)) }
         ensures memory { IfErr result IsMemory }
+        ensures form { IfOk result (λ t. t ≡ binary_form op left right at) }
     {
         let first = left.first;
         let left = Boxed::new(self.alloc, left).map_err(Fault::Memory)?;
@@ -301,6 +315,7 @@ impl<'t> Seen<'t> {
     ) -> Result<Typed, Fault>
         ensures value { Gives type_of (spec.named (sight self.now) name (map (given (sight self.now)) actuals.now)) result }
         ensures writes { OnOk result (written made.new ≡ call_writes (sight self.now) (meant (sight self.now) name) (map (given (sight self.now)) actuals.now) (written made.old)) }
+        ensures form { IfOk result (λ r. named_form (sight self.now) name (map (given_form (sight self.now)) actuals.now) made.old.built ≡ Some (r, made.new.built)) }
     {
         let meaning = self.meaning(made, name)?;
         if actuals.is_empty() {
@@ -314,7 +329,8 @@ impl<'t> Seen<'t> {
     /// A constant or a variable.
     #[tactic(auto, unfolding(crate::specs::Expr::alone_by))]
     fn named_alone(&self, meaning: Meaning, name: Span) -> Option<Typed>
-        ensures { option_map type_of result ≡ spec.alone_by (sight self.now) meaning }
+        ensures of_type { option_map type_of result ≡ spec.alone_by (sight self.now) meaning }
+        ensures form { result ≡ alone_form (sight self.now) meaning name.start }
     {
         match meaning {
             Meaning::Constant(value) => {
@@ -337,6 +353,7 @@ impl<'t> Seen<'t> {
     ) -> Result<Typed, Fault>
         ensures value { Gives type_of (spec.call_by (sight self.now) meaning name.start (map (given (sight self.now)) actuals.now)) result }
         ensures writes { OnOk result (written made.new ≡ call_writes (sight self.now) (Ok meaning) (map (given (sight self.now)) actuals.now) (written made.old)) }
+        ensures form { IfOk result (λ r. call_form (sight self.now) meaning name (map (given_form (sight self.now)) actuals.now) made.old.built ≡ Some (r, made.new.built)) }
     {
         match meaning {
             Meaning::Routine {
@@ -358,6 +375,7 @@ impl<'t> Seen<'t> {
     ) -> Result<Typed, Fault>
         ensures value { Gives type_of (spec.required_call function name.start (map (given (sight self.now)) actuals.now)) result }
         ensures writes { OnOk result (written made.new ≡ writes_in_turn actual_writes (map (given (sight self.now)) actuals.now) (written made.old)) }
+        ensures form { IfOk result (λ r. required_form function name.start (map (given_form (sight self.now)) actuals.now) made.old.built ≡ Some (r, made.new.built)) }
     {
         if actuals.len() == 1 {
             self.required_of(made, function, name, &actuals[0])
@@ -377,6 +395,7 @@ impl<'t> Seen<'t> {
     ) -> Result<Typed, Fault>
         ensures value { Gives type_of (spec.required_of function (given (sight self.now) actual.now)) result }
         ensures writes { OnOk result (written made.new ≡ actual_writes (given (sight self.now) actual.now) (written made.old)) }
+        ensures form { IfOk result (λ r. required_of_form function name.start (given_form (sight self.now) actual.now) made.old.built ≡ Some (r, made.new.built)) }
     {
         let value = self.value_actual(actual)?;
         let (operand, boolean) = self.scalar(made, value)?;
@@ -399,6 +418,7 @@ impl<'t> Seen<'t> {
     ) -> Result<Typed, Fault>
         ensures value { Gives type_of (spec.function_call (sight self.now) head name.start (map (given (sight self.now)) actuals.now)) result }
         ensures writes { OnOk result (written made.new ≡ all_passed_writes (sight self.now) (formals_at (sight self.now) head) (map (given (sight self.now)) actuals.now) (written made.old)) }
+        ensures form { IfOk result (λ r. function_form (sight self.now) head name (map (given_form (sight self.now)) actuals.now) made.old.built ≡ Some (r, made.new.built)) }
     {
         let Some(callee) = self.callee(head) else {
             return Err(Rule::Kind.broken(name.start));
@@ -409,7 +429,7 @@ impl<'t> Seen<'t> {
         if self.is_asserting() {
             return Err(Rule::AssertionCall.broken(name.start));
         }
-        let slot = made.add_own(name, VarKind::Slot, callee.result)?;
+        let slot = made.built.add_own(name, VarKind::Slot, callee.result)?;
         let actuals = self.actuals(made, head, actuals)?;
         Ok(self.called(callee.routine, actuals, slot, callee.result, name.start))
     }
@@ -423,7 +443,8 @@ impl<'t> Seen<'t> {
         of_type: u32,
         at: u32,
     ) -> Typed
-        ensures { type_of result ≡ scalar (spec.is_host (host_at (sight self.now) of_type) true) }
+        ensures of_type { type_of result ≡ scalar (spec.is_host (host_at (sight self.now) of_type) true) }
+        ensures form { result ≡ scalar_of at (form.Call routine actuals slot at) (spec.is_host (host_at (sight self.now) of_type) true) }
     {
         Typed::Scalar {
             expr: Expr {

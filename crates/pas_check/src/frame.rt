@@ -1,4 +1,5 @@
-ghost use Rattle.std.specs.Prelude.{◌≡◌};
+ghost use Rattle.std.specs.Prelude.{◌≡◌, ◌++◌, ◌∷◌, [], IfOk, OnOk};
+ghost use Rattle.pas_check.specs.Built.{finished, frame_of, taken, variables_in};
 
 use pas_program::{Routine, Statement, VarKind};
 use px_base::Span;
@@ -15,9 +16,10 @@ pub struct Frame {
     pub level: u32,
     pub formals: Items<u32>,
     pub result: Option<u32>,
-    locals: Vec<u32>,
-    slots: Vec<u32>,
-    bounds: Vec<u32>,
+    /// The other variables of its block so far: those of its variable part, and the hidden ones for calls and `for` statements.
+    pub locals: Items<u32>,
+    pub slots: Items<u32>,
+    pub bounds: Items<u32>,
 }
 
 impl Frame {
@@ -30,7 +32,7 @@ impl Frame {
         formals: Items<u32>,
         returned: Option<u32>,
     ) -> Frame
-        ensures { result.level ≡ level }
+        ensures { result ≡ frame_of name routine parent level formals returned }
     {
         Frame {
             name,
@@ -39,24 +41,29 @@ impl Frame {
             level,
             formals,
             result: returned,
-            locals: Vec::new(alloc),
-            slots: Vec::new(alloc),
-            bounds: Vec::new(alloc),
+            locals: Items::new(alloc),
+            slots: Items::new(alloc),
+            bounds: Items::new(alloc),
         }
     }
 
     /// Takes in a variable that is no parameter and no result.
-    pub fn take(&mut self, kind: VarKind, number: u32) -> Result<(), AllocError> {
+    pub fn take(&mut self, kind: VarKind, number: u32) -> Result<(), AllocError>
+        ensures { OnOk result (self.new ≡ taken kind number self.old) }
+    {
         match kind {
-            VarKind::Slot => self.slots.push(number)?,
-            VarKind::Bound => self.bounds.push(number)?,
-            _ => self.locals.push(number)?,
+            VarKind::Slot => self.slots.push(number),
+            VarKind::Bound => self.bounds.push(number),
+            VarKind::Local | VarKind::Value | VarKind::Var | VarKind::Result => {
+                self.locals.push(number)
+            }
         }
-        Ok(())
     }
 
     /// The numbers of its variables: parameters, locals, the result, slots and bounds in this order, each kind by place.
-    pub fn variables(&self, alloc: Global) -> Result<Items<u32>, AllocError> {
+    fn variables(&self, alloc: Global) -> Result<Items<u32>, AllocError>
+        ensures { IfOk result (λ vars. vars ≡ variables_in self.now) }
+    {
         let mut vars = Vec::from_slice(alloc, self.formals.as_slice())?;
         vars.extend_from_slice(self.locals.as_slice())?;
         if let Some(number) = self.result {
@@ -67,8 +74,11 @@ impl Frame {
         Ok(Items::from_vec(vars))
     }
 
-    /// The routine with these variables and this body.
-    pub fn finish(self, vars: Items<u32>, body: Statement) -> Routine {
+    /// The routine with this body.
+    pub fn finish(self, alloc: Global, body: Statement) -> Result<Routine, AllocError>
+        ensures { IfOk result (λ r. r ≡ finished self body) }
+    {
+        let vars = self.variables(alloc)?;
         let Frame {
             name,
             routine: _routine,
@@ -80,7 +90,7 @@ impl Frame {
             slots: _slots,
             bounds: _bounds,
         } = self;
-        Routine {
+        Ok(Routine {
             name,
             parent,
             level,
@@ -88,6 +98,6 @@ impl Frame {
             vars,
             result: returned,
             body,
-        }
+        })
     }
 }

@@ -1,15 +1,17 @@
 //! The headings of procedures and functions (ISO 7185, 6.6.1 and 6.6.2).
 
-ghost use Rattle.std.specs.Prelude.{◌≡◌, ◌+◌, ◌<◌, ◌∷◌, ◌++◌, [], IfErr, IfOk, IfSome, Ok, OnOk, length};
+ghost use Rattle.std.specs.Prelude.{◌≡◌, ◌+◌, ◌<◌, ◌∷◌, ◌++◌, [], IfErr, IfOk, OnOk, Some, length};
 ghost use Rattle.std.specs.Option.{option_copied, option_map};
-ghost use Rattle.pas_check.specs.Declarations.{InTurn, led_by, name_claimed};
+ghost use Rattle.pas_check.specs.Built.{frame_of};
+ghost use Rattle.pas_check.specs.Declarations.{led, led_by, name_claimed};
 ghost use Rattle.pas_check.specs.Formals as formal;
-ghost use Rattle.pas_check.specs.Formals.{IsFormal, SectionMay};
+ghost use Rattle.pas_check.specs.Formals.{formal_declared, formed_by};
 ghost use Rattle.pas_check.specs.Headings as spec;
-ghost use Rattle.pas_check.specs.Headings.{HeadingMay, begun, headed, opening_of, own_names, result_of, result_read};
+ghost use Rattle.pas_check.specs.Headings.{HeadingMay, begun, headed, number_of, own_names, result_declared, result_read, type_of_variable};
 ghost use Rattle.pas_check.specs.Outcome.{Gives, IsMemory, Meets};
 ghost use Rattle.pas_check.specs.Routine as allowed;
 ghost use Rattle.pas_check.specs.Sight.{heading_of, sight};
+ghost use Rattle.pas_check.specs.Stage.{stage};
 ghost use Rattle.pas_tree.specs.declared.block.RoutineBody.TheViews.{out-Routine};
 
 use crate::actual::Formal;
@@ -81,6 +83,7 @@ struct Formals {
 impl Formals {
     fn add(&mut self, formal: Formal, number: u32) -> Result<(), Fault>
         ensures list { OnOk result (self.new.list.items ≡ self.old.list.items ++ formal ∷ []) }
+        ensures numbers { OnOk result (self.new.numbers ≡ self.old.numbers ++ number ∷ []) }
         ensures memory { IfErr result IsMemory }
     {
         if self.numbers.push(number).is_err() {
@@ -143,7 +146,7 @@ impl<'t> Seen<'t> {
     #[tactic(auto, unfolding(crate::specs::Sight::sight))]
     fn own_scope(
         &self,
-        made: &mut Made,
+        lower: &mut Vec<u8>,
         owner: Owner,
         routine: &Routine,
         block: Option<&Block>,
@@ -152,9 +155,9 @@ impl<'t> Seen<'t> {
         ensures memory { IfErr result IsMemory }
     {
         let mut scope = Scope::new(self.alloc, owner.routine);
-        self.note_formals(made, &mut scope, routine.formals.as_slice())?;
+        self.note_formals(lower, &mut scope, routine.formals.as_slice())?;
         if let Some(block) = block {
-            self.note_block(made, &mut scope, block)?;
+            self.note_block(lower, &mut scope, block)?;
         }
         Ok(scope)
     }
@@ -163,6 +166,7 @@ impl<'t> Seen<'t> {
     #[tactic(auto, unfolding(crate::specs::Routine::result_type, crate::specs::Sight::sight))]
     fn result_type(&self, made: &mut Made, of_type: Span) -> Result<u32, Fault>
         ensures value { Gives (λ t. t) (allowed.result_type (sight self.now) of_type) result }
+        ensures kept { made.new.built ≡ made.old.built }
     {
         let number = self.named_type(made, of_type)?;
         if self.types.host(number).is_none() {
@@ -182,9 +186,9 @@ impl Made {
         numbers: Items<u32>,
         result_variable: Option<Variable>,
     ) -> Frame
-        ensures { result.level ≡ owner.level }
+        ensures { result ≡ frame_of name owner.routine (Some self.now.built.frame.routine) owner.level numbers (option_map number_of result_variable) }
     {
-        let parent = Some(self.frame.routine);
+        let parent = Some(self.built.frame.routine);
         let returned = result_variable.map(|own| own.number);
         Frame::new(
             alloc,
@@ -206,14 +210,16 @@ impl<'t> Checker<'t> {
         number: u32,
         block: Option<&Block>,
     ) -> Result<Opened, Fault>
-        ensures value { Meets (λ o. (sight self.new.seen, opening_of o)) (HeadingMay (sight self.old.seen) routine.now (option_copied block.entry)) result }
+        ensures value { Meets (λ o. (stage self.new, o)) (HeadingMay (stage self.old) routine.now number (option_copied block.entry)) result }
     {
         let begun = self.begun(routine)?;
         let owner = Owner {
             routine: number,
             level: begun.level,
         };
-        let scope = self.seen.own_scope(&mut self.made, owner, routine, block)?;
+        let scope = self
+            .seen
+            .own_scope(&mut self.made.lower, owner, routine, block)?;
         self.push_scope(scope)?;
         let formals = self.formals(owner, routine.formals.as_slice())?;
         let scope = self.pop_scope(number);
@@ -239,6 +245,7 @@ impl<'t> Checker<'t> {
     #[tactic(auto, unfolding(crate::specs::Sight::sight))]
     fn add_head(&mut self, head: Head) -> Result<(), Fault>
         ensures headed { OnOk result (sight self.new.seen ≡ headed (sight self.old.seen) (heading_of head)) }
+        ensures kept { self.new.made.built ≡ self.old.made.built }
         ensures memory { IfErr result IsMemory }
     {
         match push_head(&mut self.seen.heads, head) {
@@ -251,6 +258,7 @@ impl<'t> Checker<'t> {
     #[tactic(auto, unfolding(crate::specs::Headings::begun, crate::specs::Sight::sight))]
     fn begun(&mut self, routine: &Routine) -> Result<Begun, Fault>
         ensures value { Gives (λ b. sight self.new.seen) (begun (sight self.old.seen) routine.now) result }
+        ensures kept { self.new.made.built ≡ self.old.made.built }
         ensures level { IfOk result (λ b. b.level ≡ (sight self.old.seen).level + 1) }
         ensures head { IfOk result (λ b. b.head ≡ length (sight self.old.seen).headings) }
     {
@@ -270,7 +278,7 @@ impl<'t> Checker<'t> {
 
     /// The formals of a routine.
     fn formals(&mut self, owner: Owner, sections: &[Section]) -> Result<Formals, Fault>
-        ensures value { Meets (λ f. (sight self.new.seen, f.list.items)) (InTurn (SectionMay owner.level) (sight self.old.seen, []) sections.now) result }
+        ensures value { Gives (λ f. formed_by (stage self.new) f) (led_by (formal.section_declared owner) (record { at = stage self.old; formals = []; numbers = [] }) sections.now) result }
     {
         let mut formals = Formals {
             list: Vec::new(self.seen.alloc),
@@ -288,7 +296,7 @@ impl<'t> Checker<'t> {
         section: &Section,
         formals: &mut Formals,
     ) -> Result<(), Fault>
-        ensures value { Meets (λ u. (sight self.new.seen, formals.new.list.items)) (SectionMay owner.level (sight self.old.seen, formals.old.list.items) section.now) result }
+        ensures value { Gives (λ u. formed_by (stage self.new) formals.new) (formal.section_declared owner (formed_by (stage self.old) formals.old) section.now) result }
     {
         let names = section.names.as_slice();
         self.claim_names(names)?;
@@ -308,7 +316,7 @@ impl<'t> Checker<'t> {
         formal: Formal,
         formals: &mut Formals,
     ) -> Result<(), Fault>
-        ensures value { OnOk result (InTurn (IsFormal owner.level formal) (sight self.old.seen, formals.old.list.items) names.now (Ok (sight self.new.seen, formals.new.list.items))) }
+        ensures value { OnOk result (formed_by (stage self.new) formals.new ≡ led (formal_declared owner formal) (formed_by (stage self.old) formals.old) names.now) }
         ensures memory { IfErr result IsMemory }
     {
         for name in names {
@@ -320,6 +328,7 @@ impl<'t> Checker<'t> {
     /// Declares names whose type is still to be read.
     pub fn claim_names(&mut self, names: &[Span]) -> Result<(), Fault>
         ensures value { Gives (λ u. sight self.new.seen) (led_by name_claimed (sight self.old.seen) names.now) result }
+        ensures kept { self.new.made.built ≡ self.old.made.built }
     {
         for name in names {
             self.claim_name(*name)?;
@@ -330,6 +339,7 @@ impl<'t> Checker<'t> {
     #[tactic(auto, unfolding(crate::specs::Declarations::name_claimed))]
     fn claim_name(&mut self, name: Span) -> Result<(), Fault>
         ensures value { Gives (λ u. sight self.new.seen) (name_claimed (sight self.old.seen) name) result }
+        ensures kept { self.new.made.built ≡ self.old.made.built }
     {
         self.seen.claim(&mut self.made, name)?;
         self.seen.define(&mut self.made, name, Meaning::Untyped)
@@ -342,12 +352,12 @@ impl<'t> Checker<'t> {
         formal: Formal,
         formals: &mut Formals,
     ) -> Result<(), Fault>
-        ensures value { OnOk result (IsFormal owner.level formal (sight self.old.seen, formals.old.list.items) name (Ok (sight self.new.seen, formals.new.list.items))) }
+        ensures value { OnOk result (formed_by (stage self.new) formals.new ≡ formal_declared owner formal (formed_by (stage self.old) formals.old) name) }
         ensures memory { IfErr result IsMemory }
     {
         let Formal { by_var, of_type } = formal;
         let kind = kind_of(by_var);
-        let number = self.made.add_variable(name, owner.routine, kind, of_type)?;
+        let number = self.made.built.add_variable(name, owner.routine, kind, of_type)?;
         let variable = Variable {
             number,
             at: name.start,
@@ -369,8 +379,8 @@ impl<'t> Checker<'t> {
         name: Span,
         of_type: Option<Span>,
     ) -> Result<Option<Variable>, Fault>
-        ensures value { Gives (λ x. option_map (λ y. y.of_type) x) (result_read (sight self.old.seen) of_type) result }
-        ensures variable { IfOk result (λ x. IfSome x (λ y. y ≡ result_of owner.level name y.number y.of_type)) }
+        ensures value { Gives (λ x. option_map type_of_variable x) (result_read (sight self.old.seen) of_type) result }
+        ensures variable { IfOk result (λ x. result_declared owner name (option_map type_of_variable x) self.old.made.built ≡ (x, self.new.made.built)) }
         ensures kept { self.new.seen ≡ self.old.seen }
     {
         let Some(of_type) = of_type else {
@@ -378,7 +388,7 @@ impl<'t> Checker<'t> {
         };
         let of_type = self.seen.result_type(&mut self.made, of_type)?;
         let kind = VarKind::Result;
-        let number = self.made.add_variable(name, owner.routine, kind, of_type)?;
+        let number = self.made.built.add_variable(name, owner.routine, kind, of_type)?;
         Ok(Some(Variable {
             number,
             at: name.start,

@@ -12,6 +12,7 @@ ghost use Rattle.pas_check.specs.Outcome.{Gives, Meets, each};
 ghost use Rattle.pas_check.specs.Placing as placing;
 ghost use Rattle.pas_check.specs.Placing.{Branches, IsPlacedRightly, Members, Notes, Nothing, PlacesRise, arm_of, below, content, content_of, end_of, in_order, label_mark, last_place, marks, marks_inside, member_marks, or_nothing, outline, outline_of, sequence_marks};
 ghost use Rattle.pas_check.specs.Sight.{sight};
+ghost use Rattle.pas_check.specs.StatementForms.{goto_form, label_value};
 
 use crate::fault::{Fault, Rule};
 use crate::scope::{Scope, innermost};
@@ -397,6 +398,7 @@ impl<'t> Seen<'t> {
     /// The label of a statement, if it has one.
     pub fn label_before(&self, label: Option<Label>) -> Result<Option<u32>, Fault>
         ensures value { Gives (λ n. tt) (label_before (sight self.now).labels label) result }
+        ensures form { IfOk result (λ n. n ≡ option_map label_value label) }
     {
         match label {
             Some(label) => Ok(Some(self.placed_label(label)?)),
@@ -420,6 +422,7 @@ impl<'t> Seen<'t> {
     #[tactic(auto, unfolding(crate::specs::Sight::sight))]
     pub fn goto(&self, label: Label, at: u32) -> Result<Body, Fault>
         ensures value { Gives (λ b. tt) (spec.goto_allowed (sight self.now).labels label at) result }
+        ensures form { IfOk result (λ b. goto_form (sight self.now) label at ≡ Some b) }
     {
         let routine = left_for(self.scopes.as_slice(), label, at, true)?;
         Ok(Body::Goto {

@@ -8,6 +8,7 @@
 mod access;
 mod actual;
 mod block;
+mod built;
 mod checker;
 mod choice;
 mod constant;

@@ -12,8 +12,9 @@ ghost use Rattle.pas_check.specs.Outcome.{IsMemory};
 ghost use Rattle.pas_check.specs.Plans.{ArePlanned, block_at, block_by, block_given};
 
 use crate::fault::Fault;
+use crate::names::{lower_case, spelling};
 use crate::scope::Scope;
-use crate::seen::{Made, Seen};
+use crate::seen::Seen;
 use indexmap::IndexMap;
 use pas_tree::{Block, ConstDecl, Routine, RoutineBody, Section, TypeDecl, VarDecl};
 use px_base::Span;
@@ -173,12 +174,18 @@ impl<'b> Plans<'b> {
 
 impl<'t> Seen<'t> {
     /// The numbers of the headings of a block, and which of them go together.
-    pub fn plans<'b>(&self, made: &mut Made, routines: &'b [Routine]) -> Result<Plans<'b>, Fault>
+    ///
+    /// `first` is the number of the first routine of the block that ends.
+    pub fn plans<'b>(
+        &self,
+        lower: &mut Vec<u8>,
+        first: u32,
+        routines: &'b [Routine],
+    ) -> Result<Plans<'b>, Fault>
         ensures later { IfOk result (λ plans. map later_of (reverse plans.list.items) ≡ map (λ p. p.1) (planned self.now.text.now routines.now)) }
         ensures lacking { IfOk result (λ plans. lacking_by plans.lacking ≡ bodies_given self.now.text.now routines.now) }
         ensures memory { IfErr result IsMemory }
     {
-        let first = u32::try_from(made.routines.len()).unwrap_or(u32::MAX);
         let mut numbers = numbers(self.alloc, first, routines).map_err(Fault::Memory)?;
         let mut bodies = Bodies::new(self.alloc);
         let mut plans = Plans {
@@ -188,7 +195,7 @@ impl<'t> Seen<'t> {
         let mut rest = routines;
         while let Some((routine, before)) = rest.split_last() {
             let number = numbers.pop().unwrap_or(first);
-            self.plan(made, routine, number, &mut bodies, &mut plans)?;
+            self.plan(lower, routine, number, &mut bodies, &mut plans)?;
             rest = before;
         }
         Ok(plans)
@@ -197,7 +204,7 @@ impl<'t> Seen<'t> {
     /// The plan of a heading, before those of the headings after it.
     fn plan<'b>(
         &self,
-        made: &mut Made,
+        lower: &mut Vec<u8>,
         routine: &'b Routine,
         number: u32,
         bodies: &mut Bodies<'b>,
@@ -206,8 +213,8 @@ impl<'t> Seen<'t> {
         ensures value { (rest : List Routine) → ArePlanned self.now.text.now bodies.old plans.old rest → OnOk result (ArePlanned self.now.text.now bodies.new plans.new (routine.now ∷ rest)) }
         ensures memory { IfErr result IsMemory }
     {
-        made.spell(self.text, routine.name)?;
-        let name = made.lower.as_slice();
+        lower_case(spelling(self.text, routine.name), lower).map_err(Fault::Memory)?;
+        let name = lower.as_slice();
         let function = routine.function;
         match &routine.body {
             RoutineBody::Block(block) => {
@@ -231,20 +238,20 @@ impl<'t> Seen<'t> {
 impl<'t> Seen<'t> {
     /// Takes note of the names that a block declares.
     #[tactic(auto, using(crate::proofs::Noted::noted_append))]
-    pub fn note_block(&self, made: &mut Made, scope: &mut Scope, block: &Block) -> Result<(), Fault>
+    pub fn note_block(&self, lower: &mut Vec<u8>, scope: &mut Scope, block: &Block) -> Result<(), Fault>
         ensures names { OnOk result (scope.new.names ≡ noted_all self.now.text.now (names_in block.now) scope.old.names) }
         ensures memory { IfErr result IsMemory }
     {
-        self.note_consts(made, scope, block.consts.as_slice())?;
-        self.note_types(made, scope, block.types.as_slice())?;
-        self.note_vars(made, scope, block.vars.as_slice())?;
-        self.note_routines(made, scope, block.routines.as_slice())?;
+        self.note_consts(lower, scope, block.consts.as_slice())?;
+        self.note_types(lower, scope, block.types.as_slice())?;
+        self.note_vars(lower, scope, block.vars.as_slice())?;
+        self.note_routines(lower, scope, block.routines.as_slice())?;
         Ok(())
     }
 
     fn note_consts(
         &self,
-        made: &mut Made,
+        lower: &mut Vec<u8>,
         scope: &mut Scope,
         decls: &[ConstDecl],
     ) -> Result<(), Fault>
@@ -252,14 +259,14 @@ impl<'t> Seen<'t> {
         ensures memory { IfErr result IsMemory }
     {
         for decl in decls {
-            self.note(made, scope, decl.name)?;
+            self.note(lower, scope, decl.name)?;
         }
         Ok(())
     }
 
     fn note_types(
         &self,
-        made: &mut Made,
+        lower: &mut Vec<u8>,
         scope: &mut Scope,
         decls: &[TypeDecl],
     ) -> Result<(), Fault>
@@ -267,24 +274,24 @@ impl<'t> Seen<'t> {
         ensures memory { IfErr result IsMemory }
     {
         for decl in decls {
-            self.note(made, scope, decl.name)?;
+            self.note(lower, scope, decl.name)?;
         }
         Ok(())
     }
 
-    fn note_vars(&self, made: &mut Made, scope: &mut Scope, decls: &[VarDecl]) -> Result<(), Fault>
+    fn note_vars(&self, lower: &mut Vec<u8>, scope: &mut Scope, decls: &[VarDecl]) -> Result<(), Fault>
         ensures names { OnOk result (scope.new.names ≡ noted_all self.now.text.now (flat_map var_names decls.now) scope.old.names) }
         ensures memory { IfErr result IsMemory }
     {
         for decl in decls {
-            self.note_names(made, scope, decl.names.as_slice())?;
+            self.note_names(lower, scope, decl.names.as_slice())?;
         }
         Ok(())
     }
 
     fn note_routines(
         &self,
-        made: &mut Made,
+        lower: &mut Vec<u8>,
         scope: &mut Scope,
         routines: &[Routine],
     ) -> Result<(), Fault>
@@ -292,7 +299,7 @@ impl<'t> Seen<'t> {
         ensures memory { IfErr result IsMemory }
     {
         for routine in routines {
-            self.note(made, scope, routine.name)?;
+            self.note(lower, scope, routine.name)?;
         }
         Ok(())
     }
@@ -300,7 +307,7 @@ impl<'t> Seen<'t> {
     /// Takes note of the names of parameters.
     pub fn note_formals(
         &self,
-        made: &mut Made,
+        lower: &mut Vec<u8>,
         scope: &mut Scope,
         sections: &[Section],
     ) -> Result<(), Fault>
@@ -308,29 +315,29 @@ impl<'t> Seen<'t> {
         ensures memory { IfErr result IsMemory }
     {
         for section in sections {
-            self.note_names(made, scope, section.names.as_slice())?;
+            self.note_names(lower, scope, section.names.as_slice())?;
         }
         Ok(())
     }
 
-    fn note_names(&self, made: &mut Made, scope: &mut Scope, names: &[Span]) -> Result<(), Fault>
+    fn note_names(&self, lower: &mut Vec<u8>, scope: &mut Scope, names: &[Span]) -> Result<(), Fault>
         ensures names { OnOk result (scope.new.names ≡ noted_all self.now.text.now names.now scope.old.names) }
         ensures memory { IfErr result IsMemory }
     {
         for name in names {
-            self.note(made, scope, *name)?;
+            self.note(lower, scope, *name)?;
         }
         Ok(())
     }
 
-    fn note(&self, made: &mut Made, scope: &mut Scope, name: Span) -> Result<(), Fault>
+    fn note(&self, lower: &mut Vec<u8>, scope: &mut Scope, name: Span) -> Result<(), Fault>
         ensures names { OnOk result (scope.new.names ≡ noted (name_at self.now.text.now name) name.start scope.old.names) }
         ensures memory { IfErr result IsMemory }
     {
-        made.spell(self.text, name)?;
+        lower_case(spelling(self.text, name), lower).map_err(Fault::Memory)?;
         match scope
             .names
-            .note(self.alloc, made.lower.as_slice(), name.start)
+            .note(self.alloc, lower.as_slice(), name.start)
         {
             Ok(()) => Ok(()),
             Err(error) => Err(Fault::Memory(error)),

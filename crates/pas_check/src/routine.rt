@@ -5,10 +5,10 @@ ghost use Rattle.std.specs.Option.{option_copied, option_map};
 ghost use Rattle.pas_check.specs.Blocks.{ForwardMay, OpenMay, RoutineMay, RoutinesMay, later_of, planned, standing, waiting_of};
 ghost use Rattle.pas_check.specs.Expr as spec;
 ghost use Rattle.pas_check.specs.Expr.{call_shown, callee_at, formals_at, result_inside};
-ghost use Rattle.pas_check.specs.Headings.{opening_of};
 ghost use Rattle.pas_check.specs.Outcome.{Gives, Meets};
 ghost use Rattle.pas_check.specs.Routine as allowed;
 ghost use Rattle.pas_check.specs.Sight.{sight};
+ghost use Rattle.pas_check.specs.Stage.{stage};
 ghost use Rattle.pas_tree.specs.declared.block.RoutineBody.TheViews.{out-Routine};
 
 use crate::actual::Formal;
@@ -100,7 +100,7 @@ impl<'t> Checker<'t> {
         waiting: &mut Waiting,
     ) -> Result<(), Fault>
         ensures value { map later_of (reverse plans.old.items) ≡ map (λ p. p.1) (planned (sight self.old.seen).text routines.now)
-            → Meets (λ u. standing (sight self.new.seen) (waiting_of waiting.new)) (RoutinesMay (standing (sight self.old.seen) (waiting_of waiting.old)) (planned (sight self.old.seen).text routines.now)) result }
+            → Meets (λ u. standing (stage self.new) (waiting_of waiting.new)) (RoutinesMay (standing (stage self.old) (waiting_of waiting.old)) (planned (sight self.old.seen).text routines.now)) result }
     {
         for routine in routines {
             let Some(plan) = plans.pop() else {
@@ -119,7 +119,7 @@ impl<'t> Checker<'t> {
         plan: Plan<'_>,
         waiting: &mut Waiting,
     ) -> Result<(), Fault>
-        ensures value { Meets (λ u. standing (sight self.new.seen) (waiting_of waiting.new)) (RoutineMay (standing (sight self.old.seen) (waiting_of waiting.old)) routine.now (option_copied plan.entry.later)) result }
+        ensures value { Meets (λ u. standing (stage self.new) (waiting_of waiting.new)) (RoutineMay (standing (stage self.old) (waiting_of waiting.old)) routine.now (option_copied plan.entry.later)) result }
     {
         match &routine.body {
             RoutineBody::Word(word) => self.forward(routine, *word, plan, waiting),
@@ -138,7 +138,7 @@ impl<'t> Checker<'t> {
         plan: Plan<'_>,
         waiting: &mut Waiting,
     ) -> Result<(), Fault>
-        ensures value { Meets (λ u. standing (sight self.new.seen) (waiting_of waiting.new)) (ForwardMay (standing (sight self.old.seen) (waiting_of waiting.old)) routine.now word (option_copied plan.entry.later)) result }
+        ensures value { Meets (λ u. standing (stage self.new) (waiting_of waiting.new)) (ForwardMay (standing (stage self.old) (waiting_of waiting.old)) routine.now word plan.number (option_copied plan.entry.later)) result }
     {
         let opened = self.heading(routine, plan.number, plan.later)?;
         if !self.seen.spelling(word).eq_ignore_ascii_case(b"forward") {
@@ -159,7 +159,7 @@ impl<'t> Checker<'t> {
         number: u32,
         waiting: &mut Waiting,
     ) -> Result<Opened, Fault>
-        ensures value { Meets (λ o. (standing (sight self.new.seen) (waiting_of waiting.new), opening_of o)) (OpenMay (standing (sight self.old.seen) (waiting_of waiting.old)) routine.now block.now) result }
+        ensures value { Meets (λ o. (standing (stage self.new) (waiting_of waiting.new), o)) (OpenMay (standing (stage self.old) (waiting_of waiting.old)) routine.now block.now number) result }
     {
         self.made.spell(self.seen.text, routine.name)?;
         match waiting.take(self.made.lower.as_slice(), routine.function) {

@@ -11,18 +11,16 @@ ghost use Rattle.pas_check.specs.Rules as rules;
 ghost use Rattle.pas_check.specs.Sight.{innermost, parts_at, sight};
 ghost use Rattle.pas_check.specs.Written.{written};
 
+use crate::built::Built;
 use crate::fault::{Fault, Rule};
-use crate::frame::Frame;
 use crate::heading::{Function, Head};
 use crate::meaning::Meaning;
 use crate::names::{lower_case, spelling};
 use crate::scope::{Scope, denoted, end_innermost, innermost};
 use crate::types::Types;
 use indexmap::IndexMap;
-use pas_program::{Assert, Routine, VarDef, VarKind};
 use px_base::Span;
-use sqlite_items::Items;
-use std::alloc::{AllocError, Global};
+use std::alloc::Global;
 
 /// What a test may depend on.
 #[derive(Drop)]
@@ -46,14 +44,10 @@ pub struct Seen<'t> {
     pub assigned: IndexMap<usize, ()>,
 }
 
-/// What is made of the program so far.
+/// What is made on the way.
 #[derive(Drop)]
 pub struct Made {
-    pub vars: Items<VarDef>,
-    /// The routines whose blocks have ended.
-    pub routines: Items<Routine>,
-    pub asserts: Items<Assert>,
-    pub frame: Frame,
+    pub built: Built,
     /// The variables that the statement part at hand threatens and that are not of its block, by their places.
     pub threats: Vec<u32>,
     /// The functions whose names the statement part at hand assigns to, by their headings.
@@ -80,52 +74,11 @@ impl Made {
     /// A statement part begins, in which nothing is written so far.
     #[tactic(auto, unfolding(crate::specs::Written::written))]
     pub fn begin_statements(&mut self)
-        ensures { written self.new ≡ nothing_written }
+        ensures nothing { written self.new ≡ nothing_written }
+        ensures kept { self.new.built ≡ self.old.built }
     {
         self.threats.clear();
         self.assigned.clear();
-    }
-
-    /// The number of a new variable of the routine at hand.
-    #[tactic(auto, unfolding(crate::specs::Written::written))]
-    pub fn add_own(&mut self, name: Span, kind: VarKind, of_type: u32) -> Result<u32, Fault>
-        ensures writes { written self.new ≡ written self.old }
-        ensures memory { IfErr result IsMemory }
-    {
-        let routine = self.frame.routine;
-        let number = self.add_variable(name, routine, kind, of_type)?;
-        match self.frame.take(kind, number) {
-            Ok(()) => Ok(number),
-            Err(error) => Err(Fault::Memory(error)),
-        }
-    }
-
-    /// The number of a new variable of any routine.
-    #[tactic(auto, unfolding(crate::specs::Written::written))]
-    pub fn add_variable(
-        &mut self,
-        name: Span,
-        routine: u32,
-        kind: VarKind,
-        of_type: u32,
-    ) -> Result<u32, Fault>
-        ensures writes { written self.new ≡ written self.old }
-        ensures memory { IfErr result IsMemory }
-    {
-        let Ok(number) = u32::try_from(self.vars.len()) else {
-            return Err(Fault::Memory(AllocError));
-        };
-        let var = VarDef {
-            name,
-            routine,
-            kind,
-            of_type,
-            place: name.start,
-        };
-        match self.vars.push(var) {
-            Ok(()) => Ok(number),
-            Err(error) => Err(Fault::Memory(error)),
-        }
     }
 }
 
@@ -222,6 +175,7 @@ impl<'t> Seen<'t> {
         ensures defined { OnOk result (sight self.new ≡ defined (sight self.old) span meaning) }
         ensures writes { written made.new ≡ written made.old }
         ensures memory { IfErr result IsMemory }
+        ensures kept { made.new.built ≡ made.old.built }
     {
         made.spell(self.text, span)?;
         let name = made.lower.as_slice();

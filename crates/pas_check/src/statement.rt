@@ -1,11 +1,14 @@
 //! Statements (ISO 7185, 6.8).
 
-ghost use Rattle.std.specs.Prelude.{◌≡◌, IfOk, OnOk, map};
+ghost use Rattle.std.specs.Prelude.{◌≡◌, true, IfErr, IfOk, OnOk, Some, map};
 ghost use Rattle.std.specs.Option.{option_map};
 ghost use Rattle.pas_check.specs.Expr.{found};
-ghost use Rattle.pas_check.specs.Outcome.{Gives, each};
+ghost use Rattle.pas_check.specs.Built.{in_order};
+ghost use Rattle.pas_check.specs.Forms.{expr_form, operand_form};
+ghost use Rattle.pas_check.specs.Outcome.{Gives, IsMemory, each};
 ghost use Rattle.pas_check.specs.Sight.{sight};
 ghost use Rattle.pas_check.specs.Statement as spec;
+ghost use Rattle.pas_check.specs.StatementForms.{assert_added, assert_form, assignment_form, body_form, branch_form, sequence_form, statement_form, value_assigned_form};
 ghost use Rattle.pas_check.specs.Statements as whole;
 ghost use Rattle.pas_check.specs.Statements.{in_branch, in_turn, stated, stated_body};
 ghost use Rattle.pas_check.specs.Writes.{assertion_writes, assignment_writes, body_writes, branch_writes, in_turn_writes, statement_writes};
@@ -31,6 +34,7 @@ impl<'t> Checker<'t> {
         ensures value { Gives (λ list. tt) (in_turn (map stated body.now) (sight self.old.seen)) result }
         ensures kept { OnOk result (sight self.new.seen ≡ sight self.old.seen) }
         ensures writes { OnOk result (written self.new.made ≡ in_turn_writes (map statement_writes body.now) (sight self.old.seen) (written self.old.made)) }
+        ensures form { IfOk result (λ r. sequence_form (sight self.old.seen) body.now self.old.made.built ≡ Some (r, self.new.made.built)) }
     {
         let mut list = Items::new(self.seen.alloc);
         for statement in body {
@@ -45,6 +49,7 @@ impl<'t> Checker<'t> {
         ensures value { Gives (λ s. tt) (stated statement.now (sight self.old.seen)) result }
         ensures kept { OnOk result (sight self.new.seen ≡ sight self.old.seen) }
         ensures writes { OnOk result (written self.new.made ≡ statement_writes statement.now (sight self.old.seen) (written self.old.made)) }
+        ensures form { IfOk result (λ r. statement_form statement.now (sight self.old.seen) self.old.made.built ≡ Some (r, self.new.made.built)) }
     {
         let label = self.seen.label_before(statement.label)?;
         let asserts = self.assertions(statement.asserts.as_slice())?;
@@ -62,6 +67,7 @@ impl<'t> Checker<'t> {
         ensures value { Gives (λ s. tt) (stated statement.now (sight self.old.seen)) result }
         ensures kept { OnOk result (sight self.new.seen ≡ sight self.old.seen) }
         ensures writes { OnOk result (written self.new.made ≡ statement_writes statement.now (sight self.old.seen) (written self.old.made)) }
+        ensures form { IfOk result (λ r. statement_form statement.now (sight self.old.seen) self.old.made.built ≡ Some (r, self.new.made.built)) }
     {
         let checked = self.statement(statement)?;
         Boxed::new(self.seen.alloc, checked).map_err(Fault::Memory)
@@ -76,6 +82,7 @@ impl<'t> Checker<'t> {
         ensures value { Gives (λ s. tt) (in_branch (option_map stated statement.now) (sight self.old.seen)) result }
         ensures kept { OnOk result (sight self.new.seen ≡ sight self.old.seen) }
         ensures writes { OnOk result (written self.new.made ≡ branch_writes (option_map statement_writes statement.now) (sight self.old.seen) (written self.old.made)) }
+        ensures form { IfOk result (λ r. branch_form (option_map statement_form statement.now) (sight self.old.seen) self.old.made.built ≡ Some (r, self.new.made.built)) }
     {
         match statement {
             Some(statement) => Ok(Some(self.boxed(statement.get())?)),
@@ -88,18 +95,12 @@ impl<'t> Checker<'t> {
         ensures value { Gives (λ list. tt) (each (whole.asserted (sight self.old.seen)) assertions.now) result }
         ensures kept { OnOk result (sight self.new.seen ≡ sight self.old.seen) }
         ensures writes { OnOk result (written self.new.made ≡ writes_in_turn (assertion_writes (sight self.old.seen)) assertions.now (written self.old.made)) }
+        ensures form { IfOk result (λ r. in_order (assert_form (sight self.old.seen)) assertions.now self.old.made.built ≡ Some (r, self.new.made.built)) }
     {
         let mut numbers = Items::new(self.seen.alloc);
         for assertion in assertions {
             let cond = self.asserted(assertion)?;
-            let number = self
-                .add_assert(Assert {
-                    routine: self.made.frame.routine,
-                    sometime: assertion.sometime,
-                    cond,
-                    at: assertion.span.start,
-                })
-                .map_err(Fault::Memory)?;
+            let number = self.made.add_assert(assertion, cond)?;
             numbers.push(number).map_err(Fault::Memory)?;
         }
         Ok(numbers)
@@ -111,21 +112,12 @@ impl<'t> Checker<'t> {
         ensures value { Gives (λ x. tt) (whole.asserted (sight self.old.seen) assertion.now) result }
         ensures kept { OnOk result (sight self.new.seen ≡ sight self.old.seen) }
         ensures writes { OnOk result (written self.new.made ≡ assertion_writes (sight self.old.seen) assertion.now (written self.old.made)) }
+        ensures form { IfOk result (λ r. operand_form (expr_form (record (sight self.old.seen) { asserting = true }) assertion.now.cond) self.old.made.built ≡ Some (r, self.new.made.built)) }
     {
         let outside = mem::replace(&mut self.seen.asserting, true);
         let cond = self.seen.of_host(&mut self.made, &assertion.cond, true)?;
         self.seen.asserting = outside;
         Ok(cond)
-    }
-
-    #[tactic(auto, unfolding(crate::specs::Written::written))]
-    fn add_assert(&mut self, assert: Assert) -> Result<u32, AllocError>
-        ensures kept { self.new.seen ≡ self.old.seen }
-        ensures writes { written self.new.made ≡ written self.old.made }
-    {
-        let number = u32::try_from(self.made.asserts.len()).map_err(|_| AllocError)?;
-        self.made.asserts.push(assert)?;
-        Ok(number)
     }
 
     #[tactic(auto, unfolding(crate::specs::Statements::stated, crate::specs::Statements::stated_body, crate::specs::Statements::stated_arm, crate::specs::Writes::statement_writes, crate::specs::Writes::body_writes, crate::specs::Writes::arm_writes))]
@@ -134,6 +126,7 @@ impl<'t> Checker<'t> {
         ensures value { Gives (λ b. tt) (stated_body body.now at.start (sight self.old.seen)) result }
         ensures kept { OnOk result (sight self.new.seen ≡ sight self.old.seen) }
         ensures writes { OnOk result (written self.new.made ≡ body_writes body.now (sight self.old.seen) (written self.old.made)) }
+        ensures form { IfOk result (λ r. body_form body.now at (sight self.old.seen) self.old.made.built ≡ Some (r, self.new.made.built)) }
     {
         match body {
             pas_tree::Body::Empty => Ok(Body::Empty),
@@ -183,6 +176,27 @@ impl<'t> Checker<'t> {
     }
 }
 
+impl Made {
+    /// The number of an assertion that asserts this.
+    #[tactic(auto, unfolding(crate::specs::Written::written))]
+    fn add_assert(&mut self, assertion: &Assertion, cond: Expr) -> Result<u32, Fault>
+        ensures form { IfOk result (λ n. assert_added assertion.now cond self.old.built ≡ (n, self.new.built)) }
+        ensures writes { written self.new ≡ written self.old }
+        ensures memory { IfErr result IsMemory }
+    {
+        let assert = Assert {
+            routine: self.built.frame.routine,
+            sometime: assertion.sometime,
+            cond,
+            at: assertion.span.start,
+        };
+        match self.built.add_assert(assert) {
+            Ok(number) => Ok(number),
+            Err(error) => Err(Fault::Memory(error)),
+        }
+    }
+}
+
 impl<'t> Seen<'t> {
     /// An assignment. Takes note of the function whose result it assigns to, if it does so.
     #[tactic(auto, unfolding(crate::specs::Statements::assignment))]
@@ -194,6 +208,7 @@ impl<'t> Seen<'t> {
     ) -> Result<Body, Fault>
         ensures value { Gives (λ b. tt) (whole.assignment (sight self.now) to.now value.now) result }
         ensures writes { OnOk result (written made.new ≡ assignment_writes (sight self.now) to.now value.now (written made.old)) }
+        ensures form { IfOk result (λ r. assignment_form (sight self.now) to.now value.now made.old.built ≡ Some (r, made.new.built)) }
     {
         let (body, function) = self.target_and_value(made, to, value)?;
         match function {
@@ -213,6 +228,7 @@ impl<'t> Seen<'t> {
     ) -> Result<(Body, Option<usize>), Fault>
         ensures value { Gives (λ b. b.1) (spec.assigned (sight self.now) to.now.name (map (found (sight self.now)) to.now.subscripts) (found (sight self.now) value.now)) result }
         ensures writes { IfOk result (λ b. assigns b.1 (written made.new) ≡ assignment_writes (sight self.now) to.now value.now (written made.old)) }
+        ensures form { IfOk result (λ r. assignment_form (sight self.now) to.now value.now made.old.built ≡ Some (r.0, made.new.built)) }
     {
         let meaning = self.meaning(made, to.name)?;
         let (variable, function) = self.target(meaning, to.name.start)?;
@@ -246,6 +262,7 @@ impl<'t> Seen<'t> {
     ) -> Result<Body, Fault>
         ensures value { Gives (λ b. tt) (spec.value_assigned (sight self.now) target.of_type (found (sight self.now) value.now)) result }
         ensures writes { OnOk result (written made.new ≡ (found (sight self.now) value.now).writes (written made.old)) }
+        ensures form { IfOk result (λ r. value_assigned_form target.access (expr_form (sight self.now) value.now) made.old.built ≡ Some (r, made.new.built)) }
     {
         match self.expr(made, value)? {
             Typed::Scalar { expr, boolean } if self.is_host(target.of_type, boolean) => {
@@ -265,7 +282,8 @@ impl<'t> Seen<'t> {
 
 #[tactic(auto, unfolding(crate::specs::Written::written))]
 fn assign_result(made: &mut Made, head: usize) -> Result<(), AllocError>
-    ensures { OnOk result (written made.new ≡ assigns (Some head) (written made.old)) }
+    ensures writes { OnOk result (written made.new ≡ assigns (Some head) (written made.old)) }
+    ensures kept { made.new.built ≡ made.old.built }
 {
     made.assigned.push(head)?;
     Ok(())

@@ -46,6 +46,7 @@ impl<'t> Seen<'t> {
     #[tactic(auto, unfolding(crate::specs::TypeExpr::named_type))]
     pub fn named_type(&self, made: &mut Made, name: Span) -> Result<u32, Fault>
         ensures value { Gives (λ t. t) (spec.named_type (sight self.now) name) result }
+        ensures kept { made.new.built ≡ made.old.built }
     {
         match self.meaning(made, name)? {
             Meaning::Type(number) => Ok(number),
@@ -61,6 +62,7 @@ impl<'t> Checker<'t> {
     pub fn type_expr(&mut self, of_type: &TypeExpr) -> Result<u32, Fault>
         ensures value { Gives (λ t. (t, self.new.seen.types.list.list)) ((type_test of_type.now).read (sight self.old.seen)) result }
         ensures kept { OnOk result (sight self.new.seen ≡ with_types (sight self.old.seen) self.new.seen.types.list.list) }
+        ensures built { self.new.made.built ≡ self.old.made.built }
     {
         match of_type {
             TypeExpr::Name { name } => self.seen.named_type(&mut self.made, *name),
@@ -83,6 +85,7 @@ impl<'t> Checker<'t> {
     fn index_types(&mut self, indexes: &[TypeExpr]) -> Result<Vec<u32>, Fault>
         ensures value { Gives (λ ts. (reverse ts.items, self.new.seen.types.list.list)) (index_types (sight self.old.seen) (map type_test indexes.now) []) result }
         ensures kept { OnOk result (sight self.new.seen ≡ with_types (sight self.old.seen) self.new.seen.types.list.list) }
+        ensures built { self.new.made.built ≡ self.old.made.built }
     {
         let mut numbers = Vec::new(self.seen.alloc);
         for index in indexes {
@@ -98,6 +101,7 @@ impl<'t> Checker<'t> {
     fn index_type(&mut self, index: &TypeExpr) -> Result<u32, Fault>
         ensures value { Gives (λ t. (t, self.new.seen.types.list.list)) (declared.index_type (sight self.old.seen) (type_test index.now)) result }
         ensures kept { OnOk result (sight self.new.seen ≡ with_types (sight self.old.seen) self.new.seen.types.list.list) }
+        ensures built { self.new.made.built ≡ self.old.made.built }
     {
         let number = self.type_expr(index)?;
         if self.seen.types.host(number).is_none() {
@@ -110,6 +114,7 @@ impl<'t> Checker<'t> {
     fn subrange(&mut self, lo: &Constant, hi: &Constant) -> Result<u32, Fault>
         ensures value { Gives (λ t. (t, self.new.seen.types.list.list)) (subrange (sight self.old.seen) lo.now hi.now) result }
         ensures kept { OnOk result (sight self.new.seen ≡ with_types (sight self.old.seen) self.new.seen.types.list.list) }
+        ensures built { self.new.made.built ≡ self.old.made.built }
     {
         let low = self.seen.constant(&mut self.made, lo)?;
         let high = self.seen.constant(&mut self.made, hi)?;

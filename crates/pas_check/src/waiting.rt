@@ -1,9 +1,7 @@
 //! Headings that wait for their bodies.
 
 ghost use Rattle.std.specs.Prelude.{◌≡◌, None, OnOk, Some, if◌then◌else◌, is_some};
-ghost use Rattle.std.specs.Option.{option_map};
 ghost use Rattle.pas_check.specs.Blocks.{nothing_waits, waiting_of, waits, with_word};
-ghost use Rattle.pas_check.specs.Headings.{opening_of};
 
 use crate::heading::Opened;
 use indexmap::IndexMap;
@@ -26,7 +24,7 @@ impl Waiting {
 
     /// A heading waits for the body that comes with its name.
     pub fn add(&mut self, alloc: Global, name: &[u8], opened: Opened) -> Result<(), AllocError>
-        ensures { OnOk result (waiting_of self.new ≡ waits (waiting_of self.old) name.now (Some (opening_of opened))) }
+        ensures { OnOk result (waiting_of self.new ≡ waits (waiting_of self.old) name.now (Some opened)) }
     {
         let key = Vec::from_slice(alloc, name)?;
         self.opened.insert(key, opened)?;
@@ -35,7 +33,7 @@ impl Waiting {
 
     /// The heading with this name and word, which waits no more.
     pub fn take(&mut self, name: &[u8], function: bool) -> Option<Opened>
-        ensures taken { option_map opening_of result ≡ with_word function (waiting_of self.old name.now) }
+        ensures taken { result ≡ with_word function (waiting_of self.old name.now) }
         ensures left { waiting_of self.new ≡ (if is_some result then waits (waiting_of self.old) name.now None else waiting_of self.old) }
     {
         if self.opened.get(name)?.function != function {
