@@ -11,7 +11,7 @@ use Rattle.pas_tree.specs.declared.block.Tree.{Tree}
 use Rattle.pas_program.specs.Checked.{tables}
 use Rattle.pas_program.specs.Labels.{AssertsStand, ConstantsDiffer, ControlsAreLocal, LabelsStand}
 use Rattle.pas_program.specs.declared.program.Program.{Program}
-use Rattle.pas_check.specs.Accepted.{IsUnbroken}
+use Rattle.pas_check.specs.Accepted.{IsProgramOf}
 use Rattle.pas_check.specs.Blocks.{IsSound}
 use Rattle.pas_check.specs.Fault.{IsWithin}
 use Rattle.pas_check.specs.declared.fault.CheckFault.TheVariants.{Wrong}
@@ -37,12 +37,11 @@ pub record IsChecked (checked : Program) : Type 0 where
   pub constants : ConstantsDiffer checked.routines
   pub assertions : AssertsStand checked.routines checked.asserts
 
--- The flow of a source: the source has a tree, which breaks no rule, and the flow is of a program that the checker answered. That
--- this is the program of that tree is not told here.
+-- The flow of a source: the source has a tree, which breaks no rule, and the flow is of the program that is built of this tree.
 pub record IsFlowOf (text : List ℕ) (flow : Flow) : Type 0 where
   pub tree : Tree
   pub is_tree : IsTreeOf text tree
-  pub unbroken : IsUnbroken text tree
+  pub is_program : IsProgramOf text tree flow.program
   pub is_checked : IsChecked flow.program
 
 -- ---- faults

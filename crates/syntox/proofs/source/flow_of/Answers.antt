@@ -1,4 +1,5 @@
 use Rattle.std.proofs.Common.{sym, subst}
+use Rattle.pas_check.specs.Accepted.{IsProgramOf}
 use Rattle.syntox.proofs.Faults.{tree_of}
 use Rattle.syntox.specs.Source.{IsChecked}
 use Rattle.syntox.proofs.source.flow_of.Goals as goal
@@ -22,7 +23,7 @@ pub returns-in-Ok-build-clause-flow : goal.returns-in-Ok-build-clause-flow
 returns-in-Ok-build-clause-flow c = record {
   tree = c.in-Ok-parse.tree;
   is_tree = tree_of c.args.text.now c.deref.result.now c.in-Ok.tokens.items c.in-Ok-parse.tree c.deref.ensures.value c.in-Ok.ensures.tokens c.in-Ok-parse.ensures.value c.in-Ok-parse.ensures.grammar;
-  unbroken = c.in-Ok-check.ensures.unbroken;
+  is_program = subst (IsProgramOf c.args.text.now c.in-Ok-parse.tree) (sym c.in-Ok-build.ensures) c.in-Ok-check.ensures.program;
   is_checked = subst IsChecked (sym c.in-Ok-build.ensures) (record {
     controls = c.in-Ok-check.ensures.controls;
     labels = c.in-Ok-check.ensures.labels;
