@@ -16,7 +16,7 @@ use Rattle.pas_check.specs.declared.meaning.Variable.{Variable}
 use Rattle.pas_check.specs.Built.{frame_of}
 use Rattle.pas_check.specs.Declarations.{led_by}
 use Rattle.pas_check.specs.Formals.{Formed, section_declared}
-use Rattle.pas_check.specs.Headings.{HeadingMay, begun, function_of, headed, headed_with, in_formals, in_result, inside, number_of, opened_with, outside, own_names, owner_in, result_declared, result_read, type_of_variable, unformed, whole}
+use Rattle.pas_check.specs.Headings.{HeadingMay, begun, function_of, headed, headed_with, in_formals, in_result, inside, number_of, outside, own_names, owner_in, result_declared, result_read, type_of_variable, unformed, whole}
 use Rattle.pas_check.specs.Labels.{Labelled}
 use Rattle.pas_check.specs.Names.{Names}
 use Rattle.pas_check.specs.Outcome.{Outcome}
