@@ -1,56 +1,69 @@
 -- Headings.
-use Rattle.std.proofs.Common.{◌≡◌, ℕ, ◌+◌, List, [], length, refl, Option, Some, None, subst, sym, ap, ◌∙◌, Ok, Err}
-use Rattle.std.specs.Prelude.{IfSome}
+use Rattle.std.proofs.Common.{◌≡◌, ℕ, List, [], length, refl, Option, Some, None, sym, ap, subst, ◌∙◌, Ok, Err}
 use Rattle.std.specs.Option.{option_map}
+use Rattle.px_base.specs.declared.place.Span.{Span}
 use Rattle.pas_tree.specs.declared.block.Block.{Block}
 use Rattle.pas_tree.specs.declared.block.Routine.{Routine}
 use Rattle.pas_tree.specs.declared.block.RoutineBody.TheViews.{out-Routine}
 use Rattle.pas_tree.specs.declared.block.Section.{Section}
+use Rattle.pas_check.specs.declared.built.Built.{Built}
 use Rattle.pas_check.specs.declared.fault.Fault.{Fault}
+use Rattle.pas_check.specs.declared.frame.Frame.{Frame}
 use Rattle.pas_check.specs.declared.heading.Function.{Function}
+use Rattle.pas_check.specs.declared.heading.Opened.{Opened}
+use Rattle.pas_check.specs.declared.heading.Owner.{Owner}
 use Rattle.pas_check.specs.declared.meaning.Variable.{Variable}
-use Rattle.pas_check.specs.Declarations.{InTurn}
-use Rattle.pas_check.specs.Formals.{Formed, SectionMay}
-use Rattle.pas_check.specs.Headings.{HeadingMay, Opening, begun, function_of, headed, in_formals, in_result, inside, opening, outside, own_names, result_of, result_read, whole}
+use Rattle.pas_check.specs.Built.{frame_of}
+use Rattle.pas_check.specs.Declarations.{led_by}
+use Rattle.pas_check.specs.Formals.{Formed, section_declared}
+use Rattle.pas_check.specs.Headings.{HeadingMay, begun, function_of, headed, headed_with, in_formals, in_result, inside, number_of, outside, own_names, owner_in, result_declared, result_read, type_of_variable, unformed, whole}
 use Rattle.pas_check.specs.Labels.{Labelled}
 use Rattle.pas_check.specs.Names.{Names}
 use Rattle.pas_check.specs.Outcome.{Outcome}
 use Rattle.pas_check.specs.Sight.{Sight, innermost}
+use Rattle.pas_check.specs.Stage.{Stage}
 
-module _ (v : Sight) (r : Routine) (later : Option Block) (u w : Sight) (names : Names) (l : Labelled) (level : ℕ) (sections : List Section) (begins : begun v r ≡ Ok u) (own : names ≡ own_names u r later) (within : w ≡ inside u names l) (deep : level ≡ v.level + 1) (same : sections ≡ (out-Routine r).formals) where
-  moved : (o : Outcome Formed) → InTurn (SectionMay level) (w, []) sections o → InTurn (SectionMay (v.level + 1)) (inside u (own_names u r later) l, []) (out-Routine r).formals o
+abbrev first_formed : Sight → Built → Formed
+first_formed v b = record { at = record { seen = v; built = b }; formals = []; numbers = [] }
+
+-- the variable for the result leaves the routine at hand
+same_frame : (owner : Owner) (name : Span) (t : Option ℕ) (b : Built) → (result_declared owner name t b).1.frame.routine ≡ b.frame.routine
+same_frame owner name None b = refl
+same_frame owner name (Some t) b = refl
+
+module _ (s : Stage) (r : Routine) (number : ℕ) (later : Option Block) (u w : Sight) (b : Built) (names : Names) (l : Labelled) (owner : Owner) (sections : List Section)
+    (begins : begun s.seen r ≡ Ok u) (own : names ≡ own_names u r later) (within : w ≡ inside u names l) (kept : b ≡ s.built) (owns : owner ≡ owner_in s.seen number) (same : sections ≡ (out-Routine r).formals) where
+  moved : (o : Outcome Formed) → led_by (section_declared owner) (first_formed w b) sections ≡ o → led_by (section_declared (owner_in s.seen number)) (unformed s u r later l) (out-Routine r).formals ≡ o
   moved o h =
-      subst (λ (xs : List Section). InTurn (SectionMay (v.level + 1)) (inside u (own_names u r later) l, []) xs o) same
-      (subst (λ (n : ℕ). InTurn (SectionMay n) (inside u (own_names u r later) l, []) sections o) deep
-      (subst (λ (ns : Names). InTurn (SectionMay level) (inside u ns l, []) sections o) own
-      (subst (λ (x : Sight). InTurn (SectionMay level) (x, []) sections o) within h)))
+      let seen : w ≡ inside u (own_names u r later) l = within ∙ ap (λ (ns : Names). inside u ns l) own in
+      let both : led_by (section_declared owner) (first_formed w b) sections ≡ led_by (section_declared (owner_in s.seen number)) (unformed s u r later l) (out-Routine r).formals =
+      (λ i. led_by (section_declared (owns i)) (first_formed (seen i) (kept i)) (same i)) in
+      sym both ∙ h
 
-  pub heading_in_formals : (f : Fault) → InTurn (SectionMay level) (w, []) sections (Err f) → HeadingMay v r later (Err f)
+  pub heading_in_formals : (f : Fault) → led_by (section_declared owner) (first_formed w b) sections ≡ Err f → HeadingMay s r number later (Err f)
   heading_in_formals f h = in_formals l begins (moved (Err f) h)
 
-  module _ (s : Formed) (formals : InTurn (SectionMay level) (w, []) sections (Ok s)) (x : Sight) (out : x ≡ outside s.0) where
-    pub heading_in_result : (f : Fault) → result_read x (out-Routine r).result ≡ Err f → HeadingMay v r later (Err f)
-    heading_in_result f e = in_result l begins (moved (Ok s) formals) (subst (λ (y : Sight). result_read y (out-Routine r).result ≡ Err f) out e)
+  module _ (x : Formed) (formals : led_by (section_declared owner) (first_formed w b) sections ≡ Ok x) (v : Sight) (out : v ≡ outside x.at.seen) where
+    pub heading_in_result : (f : Fault) → result_read v (out-Routine r).result ≡ Err f → HeadingMay s r number later (Err f)
+    heading_in_result f e = in_result l begins (moved (Ok x) formals) (subst (λ (y : Sight). result_read y (out-Routine r).result ≡ Err f) out e)
 
-    read_out : (t : Option ℕ) → result_read x (out-Routine r).result ≡ Ok t → result_read (outside s.0) (out-Routine r).result ≡ Ok t
-    read_out t e = subst (λ (y : Sight). result_read y (out-Routine r).result ≡ Ok t) out e
-
-    module _ (e : Sight) (head at_level : ℕ) (block : Names) (f : Option Function) (first : head ≡ length v.headings) (at : at_level ≡ level) (inner : block ≡ innermost s.0.blocks) where
-      ends_as : (result shown : Option Variable) → shown ≡ result → e ≡ headed x (record { formals = s.1; result = result }) → f ≡ function_of head (out-Routine r).name.start result
-          → HeadingMay v r later (Ok (headed (outside s.0) (record { formals = s.1; result = shown }), opening v r s shown)) → HeadingMay v r later (Ok (e, record { level = at_level; function = (out-Routine r).function; names = block; result = f }))
-      ends_as result shown is ends gives h =
-          let sights : headed (outside s.0) (record { formals = s.1; result = shown }) ≡ e =
-          ap (λ (o : Option Variable). headed (outside s.0) (record { formals = s.1; result = o })) is ∙ ap (λ (y : Sight). headed y (record { formals = s.1; result = result })) (sym out) ∙ sym ends in
-          let levels : v.level + 1 ≡ at_level = sym (at ∙ deep) in
-          let functions : function_of (length v.headings) (out-Routine r).name.start shown ≡ f =
-          ap (function_of (length v.headings) (out-Routine r).name.start) is ∙ ap (λ (n : ℕ). function_of n (out-Routine r).name.start result) (sym first) ∙ sym gives in
-          subst (λ (p : Sight × Opening). HeadingMay v r later (Ok p)) (λ i. (sights i, record { level = levels i; function = (out-Routine r).function; names = sym inner i; result = functions i })) h
-
-      pub heading_whole : (result : Option Variable) → result_read x (out-Routine r).result ≡ Ok (option_map (λ (y : Variable). y.of_type) result)
-          → IfSome result (λ y. y ≡ result_of level (out-Routine r).name y.number y.of_type) → e ≡ headed x (record { formals = s.1; result = result }) → f ≡ function_of head (out-Routine r).name.start result
-          → HeadingMay v r later (Ok (e, record { level = at_level; function = (out-Routine r).function; names = block; result = f }))
-      heading_whole None read is ends gives = ends_as None None refl ends gives (whole l 0 begins (moved (Ok s) formals) (read_out None read))
-      heading_whole (Some y) read is ends gives =
-          ends_as (Some y) (Some (result_of (v.level + 1) (out-Routine r).name y.number y.of_type))
-          (ap Some (ap (λ (n : ℕ). result_of n (out-Routine r).name y.number y.of_type) (sym deep) ∙ sym is)) ends gives
-          (whole l y.number begins (moved (Ok s) formals) (read_out (Some y.of_type) read))
+    -- the type of the result is read, and its variable declared
+    module _ (result : Option Variable) (c : Built) (read : result_read v (out-Routine r).result ≡ Ok (option_map type_of_variable result))
+        (variable : result_declared owner (out-Routine r).name (option_map type_of_variable result) x.at.built ≡ (result, c)) where
+      pub heading_whole : (seen : Sight) (built : Built) (frame : Frame) (block : Names) (head : ℕ) (f : Option Function) → seen ≡ headed v (record { routine = number; formals = x.formals; result = result }) → built ≡ c
+          → frame ≡ frame_of (out-Routine r).name number (Some built.frame.routine) owner.level x.numbers (option_map number_of result) → block ≡ innermost x.at.seen.blocks → head ≡ length s.seen.headings → f ≡ function_of head (out-Routine r).name.start result
+          → let o : Stage × Opened = (record { seen = seen; built = built }, record { frame = frame; function = (out-Routine r).function; names = block; result = f }) in HeadingMay s r number later (Ok o)
+      heading_whole seen built frame block head f ends is framed inner first gives =
+          let own : Owner = owner_in s.seen number in
+          let name : Span = (out-Routine r).name in
+          let t : Option ℕ = option_map type_of_variable result in
+          let declared : result_declared own name t x.at.built ≡ (result, c) = ap (λ (o : Owner). result_declared o name t x.at.built) (sym owns) ∙ variable in
+          let around : x.at.built.frame.routine ≡ built.frame.routine = sym (same_frame own name t x.at.built) ∙ ap (λ (p : Option Variable × Built). p.1.frame.routine) declared ∙ ap (λ (y : Built). y.frame.routine) (sym is) in
+          let sights : headed (outside x.at.seen) (record { routine = number; formals = x.formals; result = result }) ≡ seen = ap (λ (y : Sight). headed y (record { routine = number; formals = x.formals; result = result })) (sym out) ∙ sym ends in
+          let frames : frame_of name number (Some x.at.built.frame.routine) own.level x.numbers (option_map number_of result) ≡ frame =
+          (λ i. frame_of name number (Some (around i)) (sym owns i).level x.numbers (option_map number_of result)) ∙ sym framed in
+          let functions : function_of (length s.seen.headings) name.start result ≡ f = ap (λ (n : ℕ). function_of n name.start result) (sym first) ∙ sym gives in
+          let shown : headed_with s r own x (result, c) ≡ (record { seen = seen; built = built }, record { frame = frame; function = (out-Routine r).function; names = block; result = f }) =
+          (λ i. (record { seen = sights i; built = sym is i }, record { frame = frames i; function = (out-Routine r).function; names = sym inner i; result = functions i })) in
+          subst (λ (p : Stage × Opened). HeadingMay s r number later (Ok p)) (ap (headed_with s r own x) declared ∙ shown)
+          (whole l begins (moved (Ok x) formals) (subst (λ (y : Sight). result_read y (out-Routine r).result ≡ Ok t) out read))

@@ -357,7 +357,10 @@ impl<'t> Checker<'t> {
     {
         let Formal { by_var, of_type } = formal;
         let kind = kind_of(by_var);
-        let number = self.made.built.add_variable(name, owner.routine, kind, of_type)?;
+        let number = self
+            .made
+            .built
+            .add_variable(name, owner.routine, kind, of_type)?;
         let variable = Variable {
             number,
             at: name.start,
@@ -388,7 +391,10 @@ impl<'t> Checker<'t> {
         };
         let of_type = self.seen.result_type(&mut self.made, of_type)?;
         let kind = VarKind::Result;
-        let number = self.made.built.add_variable(name, owner.routine, kind, of_type)?;
+        let number = self
+            .made
+            .built
+            .add_variable(name, owner.routine, kind, of_type)?;
         Ok(Some(Variable {
             number,
             at: name.start,
