@@ -2,29 +2,39 @@
 use Rattle.std.proofs.Common.{◌≡◌, ℕ, zero, suc, arith, ◌+◌, ◌<◌, ◌≤◌, List, [], ◌∷◌, ◌++◌, length, get_or, drop, map, reverse, refl, sym, ap, subst, ◌∙◌, Ok, Err}
 use Rattle.std.proofs.lemmas.List.{drop_all, reverse-append}
 use Rattle.pas_program.specs.declared.type_def.TypeDef.{TypeDef}
-use Rattle.px_base.specs.declared.place.Span.{Span}
-use Rattle.pas_tree.specs.declared.block.VarDecl.{VarDecl}
 use Rattle.pas_tree.specs.declared.type_expr.TypeExpr.{TypeExpr}
 use Rattle.pas_check.specs.declared.fault.Fault.{Fault}
 use Rattle.pas_check.specs.declared.scope.Scope.{Scope}
-use Rattle.pas_check.specs.Declarations.{InTurn, IsLocal, Read, VarMay, array_of, arrays_of, declared, ends, goes, in_innermost, in_names, in_type, index_type, index_types, led_by, name_claimed, stops, type_test, with_types}
+use Rattle.pas_check.specs.Declarations.{Read, array_of, arrays_of, in_innermost, index_type, index_types, led, led_by, type_test, with_types}
 use Rattle.pas_check.specs.Labels.{labelled}
 use Rattle.pas_check.specs.Names.{Names}
 use Rattle.pas_check.specs.Outcome.{IsBroken, Meets, Outcome, ◌>>=◌}
 use Rattle.pas_check.specs.Sight.{Sight, names_around}
 use Rattle.pas_check.proofs.Passing.{drop_next}
 
-module _ {A : Type 0} (step : Sight → A → Outcome Sight) where
-  led_next : (v : Sight) (xs : List A) (k : ℕ) (x : A) → k < length xs → x ≡ get_or xs k x → led_by step v (drop k xs) ≡ (step v x >>= (λ w. led_by step w (drop (k + 1) xs)))
+module _ {S A : Type 0} (step : S → A → Outcome S) where
+  led_next : (v : S) (xs : List A) (k : ℕ) (x : A) → k < length xs → x ≡ get_or xs k x → led_by step v (drop k xs) ≡ (step v x >>= (λ w. led_by step w (drop (k + 1) xs)))
   led_next v xs k x h e = ap (led_by step v) (drop_next xs k x h e)
 
   -- the declaration at hand leads on
-  pub led_goes : (start : Outcome Sight) (v w : Sight) (xs : List A) (k : ℕ) (x : A) → start ≡ led_by step v (drop k xs) → k < length xs → x ≡ get_or xs k x → step v x ≡ Ok w → start ≡ led_by step w (drop (k + 1) xs)
-  led_goes start v w xs k x so h e is = so ∙ led_next v xs k x h e ∙ ap (λ (o : Outcome Sight). o >>= (λ u. led_by step u (drop (k + 1) xs))) is
+  pub led_goes : (start : Outcome S) (v w : S) (xs : List A) (k : ℕ) (x : A) → start ≡ led_by step v (drop k xs) → k < length xs → x ≡ get_or xs k x → step v x ≡ Ok w → start ≡ led_by step w (drop (k + 1) xs)
+  led_goes start v w xs k x so h e is = so ∙ led_next v xs k x h e ∙ ap (λ (o : Outcome S). o >>= (λ u. led_by step u (drop (k + 1) xs))) is
 
   -- it breaks a rule
-  pub led_fails : (start : Outcome Sight) (v : Sight) (xs : List A) (k : ℕ) (x : A) (f : Fault) → start ≡ led_by step v (drop k xs) → k < length xs → x ≡ get_or xs k x → step v x ≡ Err f → start ≡ Err f
-  led_fails start v xs k x f so h e is = so ∙ led_next v xs k x h e ∙ ap (λ (o : Outcome Sight). o >>= (λ u. led_by step u (drop (k + 1) xs))) is
+  pub led_fails : (start : Outcome S) (v : S) (xs : List A) (k : ℕ) (x : A) (f : Fault) → start ≡ led_by step v (drop k xs) → k < length xs → x ≡ get_or xs k x → step v x ≡ Err f → start ≡ Err f
+  led_fails start v xs k x f so h e is = so ∙ led_next v xs k x h e ∙ ap (λ (o : Outcome S). o >>= (λ u. led_by step u (drop (k + 1) xs))) is
+
+  -- there is no more
+  pub led_ends : (start : Outcome S) (v : S) (xs : List A) (k : ℕ) → start ≡ led_by step v (drop k xs) → length xs ≤ k → start ≡ Ok v
+  led_ends start v xs k so h = so ∙ ap (led_by step v) (drop_all k xs h)
+
+-- the same of declarations that break no rule
+module _ {S A : Type 0} (step : S → A → S) where
+  pub leads_on : (start v w : S) (xs : List A) (k : ℕ) (x : A) → start ≡ led step v (drop k xs) → k < length xs → x ≡ get_or xs k x → w ≡ step v x → start ≡ led step w (drop (k + 1) xs)
+  leads_on start v w xs k x so h e is = so ∙ ap (led step v) (drop_next xs k x h e) ∙ ap (λ u. led step u (drop (k + 1) xs)) (sym is)
+
+  pub leads_to : (start v : S) (xs : List A) (k : ℕ) → start ≡ led step v (drop k xs) → length xs ≤ k → v ≡ start
+  leads_to start v xs k so h = sym (so ∙ ap (led step v) (drop_all k xs h))
 
 -- ---- the innermost block
 
@@ -67,21 +77,6 @@ module _ (v : Sight) (indexes : List TypeExpr) (k : ℕ) (x : TypeExpr) (h : k <
   pub indexes_go : (n : ℕ) (after : List TypeDef) (done : List ℕ) → index_type w (type_test x) ≡ Ok (n, after) → n ∷ before ≡ done → start ≡ index_types (with_types v after) (map type_test (drop (k + 1) indexes)) done
   indexes_go n after done is more = indexes_by (Ok (n, after)) is ∙ ap (index_types (with_types v after) (map type_test (drop (k + 1) indexes))) more
 
--- ---- parts that may answer in several ways
-
-module _ {S A : Type 0} (May : S → A → Outcome S → Type 0) (xs : List A) (k : ℕ) (v : S) where
-  -- the part at hand leads on
-  pub may_go : (x : A) (u : S) (o : Outcome S) → k < length xs → x ≡ get_or xs k x → May v x (Ok u) → InTurn May u (drop (k + 1) xs) o → InTurn May v (drop k xs) o
-  may_go x u o h e now rest = subst (λ ys. InTurn May v ys o) (sym (drop_next xs k x h e)) (goes now rest)
-
-  -- it breaks a rule
-  pub may_stop : (x : A) (f : Fault) → k < length xs → x ≡ get_or xs k x → May v x (Err f) → InTurn May v (drop k xs) (Err f)
-  may_stop x f h e now = subst (λ ys. InTurn May v ys (Err f)) (sym (drop_next xs k x h e)) (stops now)
-
-  -- there is no more
-  pub may_end : length xs ≤ k → InTurn May v (drop k xs) (Ok v)
-  may_end h = subst (λ ys. InTurn May v ys (Ok v)) (sym (drop_all k xs h)) ends
-
 -- a place inside a list has an element, whatever stands for one outside
 pub any_default : {A : Type 0} (xs : List A) (k : ℕ) (d e : A) → k < length xs → get_or xs k d ≡ get_or xs k e
 any_default [] k d e h = absurd (omega (arith, h))
@@ -91,17 +86,3 @@ any_default (x ∷ xs) (suc k) d e h = any_default xs k d e (omega (arith, h))
 -- the answer is a fault that may be answered
 pub meets_wrong : {A B : Type 0} (shown : A → B) (May : Outcome B → Type 0) (r : Outcome A) (e : Fault) → r ≡ Err e → (IsBroken e → May (Err e)) → Meets shown May r
 meets_wrong shown May r e is wrong = subst (λ x. Meets shown May x) (sym is) wrong
-
--- ---- a section of variables
-
-module _ (v : Sight) (d : VarDecl) (names : List Span) (same : names ≡ d.names) where
-  pub section_in_names : (f : Fault) → led_by name_claimed v names ≡ Err f → VarMay v d (Err f)
-  section_in_names f e = in_names (subst (λ ns. led_by name_claimed v ns ≡ Err f) same e)
-
-  pub section_in_type : (u : Sight) (f : Fault) → led_by name_claimed v names ≡ Ok u → (type_test d.of_type).read u ≡ Err f → VarMay v d (Err f)
-  section_in_type u f claimed e = in_type (subst (λ ns. led_by name_claimed v ns ≡ Ok u) same claimed) e
-
-  pub section_declared : (u x w : Sight) (t : ℕ) (types : List TypeDef) → led_by name_claimed v names ≡ Ok u → (type_test d.of_type).read u ≡ Ok (t, types) → x ≡ with_types u types → InTurn (IsLocal t) x names (Ok w) → VarMay v d (Ok w)
-  section_declared u x w t types claimed read kept locals =
-      declared {r = (t, types)} (subst (λ ns. led_by name_claimed v ns ≡ Ok u) same claimed) read
-      (subst (λ ns. InTurn (IsLocal t) (with_types u types) ns (Ok w)) same (subst (λ y. InTurn (IsLocal t) y names (Ok w)) kept locals))

@@ -261,6 +261,7 @@ impl<'t> Checker<'t> {
     }
 
     /// A variable of the block at hand.
+    #[tactic(auto, unfolding(crate::specs::Declarations::local_declared, crate::specs::Sight::sight))]
     fn local(&mut self, name: Span, of_type: u32) -> Result<(), Fault>
         ensures value { OnOk result (stage self.new ≡ local_declared of_type (stage self.old) name) }
         ensures memory { IfErr result IsMemory }
