@@ -116,6 +116,7 @@ impl<'t> Checker<'t> {
     }
 
     /// The parts of a block before its routines.
+    #[tactic(auto, unfolding(crate::specs::Blocks::parts))]
     fn parts(&mut self, block: &Block) -> Result<(), Fault>
         ensures value { Gives (λ u. stage self.new) (parts (stage self.old) block.now) result }
     {
@@ -240,6 +241,7 @@ impl<'t> Checker<'t> {
     }
 
     /// The variables of a section.
+    #[tactic(auto, unfolding(crate::specs::Declarations::var_declared))]
     fn var_declared(&mut self, decl: &VarDecl) -> Result<(), Fault>
         ensures value { Gives (λ u. stage self.new) (var_declared (stage self.old) decl.now) result }
     {
