@@ -116,6 +116,7 @@ impl<'t> Checker<'t> {
     }
 
     /// The parts of a block before its routines.
+    #[tactic(auto, unfolding(crate::specs::Blocks::parts))]
     fn parts(&mut self, block: &Block) -> Result<(), Fault>
         ensures value { Gives (λ u. stage self.new) (parts (stage self.old) block.now) result }
     {
@@ -240,6 +241,7 @@ impl<'t> Checker<'t> {
     }
 
     /// The variables of a section.
+    #[tactic(auto, unfolding(crate::specs::Declarations::var_declared))]
     fn var_declared(&mut self, decl: &VarDecl) -> Result<(), Fault>
         ensures value { Gives (λ u. stage self.new) (var_declared (stage self.old) decl.now) result }
     {
@@ -261,6 +263,7 @@ impl<'t> Checker<'t> {
     }
 
     /// A variable of the block at hand.
+    #[tactic(auto, unfolding(crate::specs::Declarations::local_declared, crate::specs::Sight::sight))]
     fn local(&mut self, name: Span, of_type: u32) -> Result<(), Fault>
         ensures value { OnOk result (stage self.new ≡ local_declared of_type (stage self.old) name) }
         ensures memory { IfErr result IsMemory }

@@ -238,7 +238,12 @@ impl<'t> Seen<'t> {
 impl<'t> Seen<'t> {
     /// Takes note of the names that a block declares.
     #[tactic(auto, using(crate::proofs::Noted::noted_append))]
-    pub fn note_block(&self, lower: &mut Vec<u8>, scope: &mut Scope, block: &Block) -> Result<(), Fault>
+    pub fn note_block(
+        &self,
+        lower: &mut Vec<u8>,
+        scope: &mut Scope,
+        block: &Block,
+    ) -> Result<(), Fault>
         ensures names { OnOk result (scope.new.names ≡ noted_all self.now.text.now (names_in block.now) scope.old.names) }
         ensures memory { IfErr result IsMemory }
     {
@@ -279,7 +284,12 @@ impl<'t> Seen<'t> {
         Ok(())
     }
 
-    fn note_vars(&self, lower: &mut Vec<u8>, scope: &mut Scope, decls: &[VarDecl]) -> Result<(), Fault>
+    fn note_vars(
+        &self,
+        lower: &mut Vec<u8>,
+        scope: &mut Scope,
+        decls: &[VarDecl],
+    ) -> Result<(), Fault>
         ensures names { OnOk result (scope.new.names ≡ noted_all self.now.text.now (flat_map var_names decls.now) scope.old.names) }
         ensures memory { IfErr result IsMemory }
     {
@@ -320,7 +330,12 @@ impl<'t> Seen<'t> {
         Ok(())
     }
 
-    fn note_names(&self, lower: &mut Vec<u8>, scope: &mut Scope, names: &[Span]) -> Result<(), Fault>
+    fn note_names(
+        &self,
+        lower: &mut Vec<u8>,
+        scope: &mut Scope,
+        names: &[Span],
+    ) -> Result<(), Fault>
         ensures names { OnOk result (scope.new.names ≡ noted_all self.now.text.now names.now scope.old.names) }
         ensures memory { IfErr result IsMemory }
     {
@@ -335,10 +350,7 @@ impl<'t> Seen<'t> {
         ensures memory { IfErr result IsMemory }
     {
         lower_case(spelling(self.text, name), lower).map_err(Fault::Memory)?;
-        match scope
-            .names
-            .note(self.alloc, lower.as_slice(), name.start)
-        {
+        match scope.names.note(self.alloc, lower.as_slice(), name.start) {
             Ok(()) => Ok(()),
             Err(error) => Err(Fault::Memory(error)),
         }

@@ -1,8 +1,7 @@
-use Rattle.std.proofs.Common.{drop}
-use Rattle.pas_check.specs.Declarations.{InTurn, IsLocal}
-use Rattle.pas_check.specs.Outcome.{Outcome}
-use Rattle.pas_check.specs.Sight.{Sight, sight}
+use Rattle.std.proofs.Common.{◌≡◌, drop}
+use Rattle.pas_check.specs.Declarations.{led, local_declared}
+use Rattle.pas_check.specs.Stage.{stage}
 use Rattle.pas_check.proofs.checker.Checker.locals.Given as goal
 
 abbrev pub invariant-loop-name : goal.invariant-loop-name
-invariant-loop-name l = (o : Outcome Sight) → InTurn (IsLocal l.of_type) (sight l.self.seen) (drop l.name-index l.names) o → InTurn (IsLocal l.of_type) (sight l.fn.self.seen) l.names o
+invariant-loop-name l = led (local_declared l.of_type) (stage l.fn.self) l.names ≡ led (local_declared l.of_type) (stage l.self) (drop l.name-index l.names)
