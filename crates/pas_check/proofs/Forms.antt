@@ -1,6 +1,6 @@
 -- What expressions, variables and actuals are in the program, one level at a time.
 use Rattle.std.proofs.Common.{◌≡◌, ℕ, suc, ◌+◌, ◌<◌, ◌≤◌, List, [], ◌∷◌, ◌++◌, length, get_or, drop, map, Option, Some, None, Result, Ok, refl, sym, ap, ◌∙◌, append_assoc, arith, if◌then◌else◌, nat_eq}
-use Rattle.std.proofs.lemmas.List.{append-nil, drop_all}
+use Rattle.std.proofs.lemmas.List.{append-nil, drop_all, length-map}
 use Rattle.std.specs.List.{slice_get}
 use Rattle.px_base.specs.declared.place.Span.{Span}
 use Rattle.pas_program.specs.declared.expr.Actual as built_actual
@@ -110,8 +110,9 @@ module _ (v : Sight) where
       so ∙ ap (λ zs. after_subscripts ys (subscripts_form v t (map (expr_form v) zs) b)) (drop_all k subscripts h) ∙ ap (λ zs. Some ((zs, t), b)) (append-nil ys)
 
   -- what subscripts reach
-  pub reached_by : (x : Variable) (at : ℕ) (subscripts : List Expr) (b : Built) (ys : List built_expr.Expr) (t : ℕ) (c : Built) → subscripts_form v x.of_type (map (expr_form v) subscripts) b ≡ Some ((ys, t), c)
-      → reached_form v x at (map (expr_form v) subscripts) b ≡ Some (record { access = access_of x ys at; of_type = t; whole = if nat_eq (length (map (expr_form v) subscripts)) 0 then Some x else None }, c)
+  pub reached_by : (x : Variable) (at : ℕ) (subscripts : List Expr) (b : Built) (ys : List built_expr.Expr) (t : ℕ) (whole : Option Variable) (c : Built) → subscripts_form v x.of_type (map (expr_form v) subscripts) b ≡ Some ((ys, t), c)
+      → whole ≡ (if nat_eq (length subscripts) 0 then Some x else None) → reached_form v x at (map (expr_form v) subscripts) b ≡ Some (record { access = access_of x ys at; of_type = t; whole = whole }, c)
   unfolding reached_form
-  reached_by x at subscripts b ys t c is =
+  reached_by x at subscripts b ys t whole c is itself =
       ap (λ (o : Option ((List built_expr.Expr × ℕ) × Built)). o >>= (λ led. Some (record { access = access_of x led.0.0 at; of_type = led.0.1; whole = if nat_eq (length (map (expr_form v) subscripts)) 0 then Some x else None }, led.1))) is
+      ∙ ap (λ w. Some (record { access = access_of x ys at; of_type = t; whole = w }, c)) (ap (λ n. if nat_eq n 0 then Some x else None) (length-map subscripts (expr_form v)) ∙ sym itself)
