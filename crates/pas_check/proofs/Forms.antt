@@ -17,7 +17,7 @@ use Rattle.pas_check.specs.declared.actual.Formal.{Formal}
 use Rattle.pas_check.specs.declared.built.Built.{Built}
 use Rattle.pas_check.specs.declared.meaning.Variable.{Variable}
 use Rattle.pas_check.specs.Built.{Builds, ◌>>=◌, allowed}
-use Rattle.pas_check.specs.Expr.{first_of, others, variable_named}
+use Rattle.pas_check.specs.Expr.{others, variable_named}
 use Rattle.pas_check.specs.Forms.{Form, GivenForm, access_by, access_form, access_of, access_step, actual_step, actual_value_form, all_passed_form, expr_form, expr_step, given_form, operand_form, passed_form, reached_form, subscripts_form, value_step}
 use Rattle.pas_check.specs.Outcome.{Outcome}
 use Rattle.pas_check.specs.Sight.{Sight, parts_at}
