@@ -4,6 +4,7 @@ pub mod Constants
 pub mod Declarations
 pub mod Declared
 pub mod Formals
+pub mod Forms
 pub mod Found
 pub mod Headings
 pub mod Labels

@@ -21,13 +21,13 @@ gives_wrong shown defined r e is wrong = subst (λ x. Gives shown defined x) (sy
 pub drop_next : {A : Type 0} (xs : List A) (k : ℕ) (x : A) → k < length xs → x ≡ get_or xs k x → drop k xs ≡ x ∷ drop (k + 1) xs
 drop_next xs k x h e = rw add-one (drop-cons xs k x h ∙ ap (λ y. y ∷ drop (suc k) xs) (sym e))
 
-first_drop : (formals : List Formal) (k : ℕ) → first_of (drop k formals) ≡ slice_get formals k
+pub first_drop : (formals : List Formal) (k : ℕ) → first_of (drop k formals) ≡ slice_get formals k
 first_drop [] zero = refl
 first_drop [] (suc k) = refl
 first_drop (f ∷ formals) zero = refl
 first_drop (f ∷ formals) (suc k) = first_drop formals k
 
-others_drop : (formals : List Formal) (k : ℕ) → others (drop k formals) ≡ drop (suc k) formals
+pub others_drop : (formals : List Formal) (k : ℕ) → others (drop k formals) ≡ drop (suc k) formals
 others_drop [] zero = refl
 others_drop [] (suc k) = refl
 others_drop (f ∷ []) zero = refl

@@ -41,7 +41,7 @@ impl<'t> Seen<'t> {
     }
 
     /// A variable as it is read or passed.
-    #[tactic(auto, unfolding(crate::specs::Expr::access_found, crate::specs::Expr::accessed))]
+    #[tactic(auto, unfolding(crate::specs::Expr::access_found, crate::specs::Expr::accessed, crate::specs::Forms::access_form, crate::specs::Forms::access_by))]
     #[cycle(expr)]
     pub fn access(&self, made: &mut Made, access: &pas_tree::Access) -> Result<Reached, Fault>
         ensures value { Gives place_of (access_found (sight self.now) access.now).place result }
@@ -53,7 +53,7 @@ impl<'t> Seen<'t> {
     }
 
     /// The part of a variable that subscripts lead to.
-    #[tactic(auto, unfolding(crate::specs::Expr::reached))]
+    #[tactic(auto, unfolding(crate::specs::Expr::reached, crate::specs::Forms::reached_form))]
     #[cycle(expr)]
     pub fn reached(
         &self,
@@ -108,7 +108,7 @@ impl<'t> Seen<'t> {
     }
 
     /// A subscript, which has the host of the index type.
-    #[tactic(auto, unfolding(crate::specs::Expr::subscript, crate::specs::Sight::sight))]
+    #[tactic(auto, unfolding(crate::specs::Expr::subscript, crate::specs::Sight::sight, crate::specs::Forms::operand_form, crate::specs::Forms::scalar_form))]
     #[cycle(expr)]
     fn subscript(
         &self,

@@ -75,7 +75,7 @@ impl<'t> Seen<'t> {
     }
 
     /// An actual for a formal, if there is one.
-    #[tactic(auto, unfolding(crate::specs::Expr::passed))]
+    #[tactic(auto, unfolding(crate::specs::Expr::passed, crate::specs::Forms::passed_form))]
     #[cycle(expr)]
     fn passed(
         &self,
@@ -114,7 +114,7 @@ impl<'t> Seen<'t> {
         }
     }
 
-    #[tactic(auto, unfolding(crate::specs::Expr::passed_by_value))]
+    #[tactic(auto, unfolding(crate::specs::Expr::passed_by_value, crate::specs::Forms::passed_by_value_form))]
     #[cycle(expr)]
     fn passed_by_value(
         &self,
@@ -138,7 +138,7 @@ impl<'t> Seen<'t> {
         }
     }
 
-    #[tactic(auto, unfolding(crate::specs::Expr::passed_by_var))]
+    #[tactic(auto, unfolding(crate::specs::Expr::passed_by_var, crate::specs::Forms::passed_by_var_form))]
     #[cycle(expr)]
     fn passed_by_var(
         &self,
@@ -159,7 +159,7 @@ impl<'t> Seen<'t> {
     }
 
     /// The variable that an expression is.
-    #[tactic(auto, unfolding(crate::specs::Expr::found, crate::specs::Expr::access_found))]
+    #[tactic(auto, unfolding(crate::specs::Expr::found, crate::specs::Expr::access_found, crate::specs::Forms::expr_form, crate::specs::Forms::access_form))]
     #[cycle(expr)]
     pub fn variable_of(&self, made: &mut Made, value: &pas_tree::Expr) -> Result<Reached, Fault>
         ensures value { Gives place_of (found (sight self.now) value.now).variable result }

@@ -108,7 +108,7 @@ fn required_operator(function: Required, boolean: bool) -> Option<(UnOp, bool)>
 
 impl<'t> Seen<'t> {
     /// An expression with its type.
-    #[tactic(auto, unfolding(crate::specs::Expr::found, crate::specs::Expr::access_found, crate::specs::Expr::given))]
+    #[tactic(auto, unfolding(crate::specs::Expr::found, crate::specs::Expr::access_found, crate::specs::Expr::given, crate::specs::Forms::expr_form, crate::specs::Forms::access_form, crate::specs::Forms::given_form))]
     #[cycle(expr)]
     pub fn expr(&self, made: &mut Made, e: &pas_tree::Expr) -> Result<Typed, Fault>
         ensures value { Gives type_of (found (sight self.now) e.now).value result }
@@ -152,7 +152,7 @@ impl<'t> Seen<'t> {
     }
 
     /// A scalar expression with its host.
-    #[tactic(auto, unfolding(crate::specs::Expr::scalar_of))]
+    #[tactic(auto, unfolding(crate::specs::Expr::scalar_of, crate::specs::Forms::scalar_form))]
     #[cycle(expr)]
     pub fn scalar(&self, made: &mut Made, e: &pas_tree::Expr) -> Result<(Expr, bool), Fault>
         ensures value { Gives (λ r. r.1) (spec.scalar_of (found (sight self.now) e.now)) result }
@@ -166,7 +166,7 @@ impl<'t> Seen<'t> {
     }
 
     /// An expression of this host.
-    #[tactic(auto, unfolding(crate::specs::Expr::of_host))]
+    #[tactic(auto, unfolding(crate::specs::Expr::of_host, crate::specs::Forms::operand_form))]
     #[cycle(expr)]
     pub fn of_host(&self, made: &mut Made, e: &pas_tree::Expr, boolean: bool) -> Result<Expr, Fault>
         ensures value { Gives (λ x. tt) (spec.of_host boolean (found (sight self.now) e.now)) result }
@@ -209,7 +209,7 @@ impl<'t> Seen<'t> {
     }
 
     /// The value of a variable.
-    #[tactic(auto, unfolding(crate::specs::Expr::value_at, crate::specs::Sight::sight))]
+    #[tactic(auto, unfolding(crate::specs::Expr::value_at, crate::specs::Sight::sight, crate::specs::Forms::value_made))]
     pub fn value_of(&self, reached: Reached) -> Typed
         ensures of_type { type_of result ≡ spec.value_at (sight self.now) reached.of_type }
         ensures form { result ≡ value_made (sight self.now) reached }
@@ -263,7 +263,7 @@ impl<'t> Seen<'t> {
 
     /// The left operand of an operator, and the host that the right one must have: the operands of a relation have one
     /// host, and a difference is at the right one.
-    #[tactic(auto, unfolding(crate::specs::Expr::left_operand))]
+    #[tactic(auto, unfolding(crate::specs::Expr::left_operand, crate::specs::Forms::operand_form))]
     #[cycle(expr)]
     fn left_operand(
         &self,
@@ -305,7 +305,7 @@ impl<'t> Seen<'t> {
     }
 
     /// A constant, a variable without subscripts, or a call.
-    #[tactic(auto, unfolding(crate::specs::Expr::named))]
+    #[tactic(auto, unfolding(crate::specs::Expr::named, crate::specs::Forms::named_form))]
     #[cycle(expr)]
     fn named(
         &self,
@@ -327,7 +327,7 @@ impl<'t> Seen<'t> {
     }
 
     /// A constant or a variable.
-    #[tactic(auto, unfolding(crate::specs::Expr::alone_by))]
+    #[tactic(auto, unfolding(crate::specs::Expr::alone_by, crate::specs::Forms::alone_form))]
     fn named_alone(&self, meaning: Meaning, name: Span) -> Option<Typed>
         ensures of_type { option_map type_of result ≡ spec.alone_by (sight self.now) meaning }
         ensures form { result ≡ alone_form (sight self.now) meaning name.start }
@@ -342,7 +342,7 @@ impl<'t> Seen<'t> {
     }
 
     /// A call, where the name is no constant and no variable.
-    #[tactic(auto, unfolding(crate::specs::Expr::call_by))]
+    #[tactic(auto, unfolding(crate::specs::Expr::call_by, crate::specs::Forms::call_form))]
     #[cycle(expr)]
     fn named_call(
         &self,
@@ -384,7 +384,7 @@ impl<'t> Seen<'t> {
         }
     }
 
-    #[tactic(auto, unfolding(crate::specs::Expr::required_of))]
+    #[tactic(auto, unfolding(crate::specs::Expr::required_of, crate::specs::Forms::required_of_form))]
     #[cycle(expr)]
     fn required_of(
         &self,
@@ -407,7 +407,7 @@ impl<'t> Seen<'t> {
     }
 
     /// A call of a declared function, with a slot for its result.
-    #[tactic(auto, unfolding(crate::specs::Expr::function_call))]
+    #[tactic(auto, unfolding(crate::specs::Expr::function_call, crate::specs::Forms::function_form))]
     #[cycle(expr)]
     fn function_call(
         &self,
