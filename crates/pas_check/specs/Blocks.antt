@@ -1,12 +1,11 @@
 -- Blocks and the routines in them (ISO 7185, 6.2 and 6.6), and what they may answer: where the walk stands after them, or the fault
--- of the first rule that they break. A heading may get any number for its routine; a block that ends is the routine with this number.
-use Rattle.std.specs.Prelude.{◌≡◌, ℕ, ◌≤◌, nat_eq, pos, ◌-ℤ◌, Bool, true, false, ◌&&◌, not, List, [], ◌∷◌, map, length, codes, is_some, Option, Some, None, Ok, Err, if◌then◌else◌}
+-- of the first rule that they break.
+use Rattle.std.specs.Prelude.{◌≡◌, ℕ, ◌+◌, ◌≤◌, nat_eq, pos, ◌-ℤ◌, Bool, true, false, ◌&&◌, not, List, [], ◌∷◌, map, length, codes, is_some, Option, Some, None, Ok, Err, if◌then◌else◌}
 use Rattle.std.specs.Bool.{beq}
 use Rattle.std.specs.Option.{option_copied, option_map}
 use Rattle.std.specs.Str.{bytes_eq, str_to_ascii_lowercase}
 use Rattle.std.specs.declared.alloc.Global.{Global}
 use Rattle.std.specs.declared.vec.Vec.{Vec}
-use Rattle.indexmap.specs.IndexMap.{get}
 use Rattle.px_base.specs.declared.place.Span.{Span}
 use Rattle.pas_program.specs.declared.type_def.TypeDef.{TypeDef}
 use Rattle.pas_program.specs.declared.type_def.TypeDef.TheVariants.{Scalar}
@@ -38,15 +37,15 @@ use Rattle.pas_check.specs.declared.meaning.Required.TheVariants as function
 use Rattle.pas_check.specs.declared.meaning.Transput.TheVariants as transput
 use Rattle.pas_check.specs.declared.plan.Plan.{Plan}
 use Rattle.pas_check.specs.declared.waiting.Waiting.{Waiting}
-use Rattle.pas_check.specs.Block.{names_in}
+use Rattle.pas_check.specs.Block.{ends_inside, ends_of, names_in}
 use Rattle.pas_check.specs.Control.{all_assigned, all_threatened}
 use Rattle.pas_check.specs.Built.{frame_of, nothing_built, with_routine}
 use Rattle.pas_check.specs.Declarations.{const_declared, led_by, type_declared, var_declared}
-use Rattle.pas_check.specs.Headings.{HeadingMay, inside, outside}
-use Rattle.pas_check.specs.Labels.{Labelled, Labels, declaration_of, labels_declared, placed_in}
+use Rattle.pas_check.specs.Headings.{heading_read, inside, outside}
+use Rattle.pas_check.specs.Labels.{Kept, Labelled, placed_in, unlabelled}
 use Rattle.pas_check.specs.Names.{Name, Names, ended, name_at, noted_all, spelling}
 use Rattle.pas_check.specs.Outcome.{Outcome, ◌>>=◌, each, unless}
-use Rattle.pas_check.specs.Placing.{noted, sequence_marks}
+use Rattle.pas_check.specs.Placing.{labels_read}
 use Rattle.pas_check.specs.Routine.{repeated_heading, result_assigned}
 use Rattle.pas_check.specs.Rules.{code_of, lacks_body}
 use Rattle.pas_check.specs.Sight.{Sight}
@@ -57,12 +56,6 @@ use Rattle.pas_check.specs.Writes.{in_turn_writes, statement_writes}
 use Rattle.pas_check.specs.Written.{Written}
 
 -- ---- the parts before the routines
-
--- the label part: what is kept of each label of it
-pub data LabelsMay (b : Block) : Outcome Labels → Type 0 where
-  in_label_part : {f : Fault} → labels_declared [] (out-Block b).labels ≡ Err f → LabelsMay b (Err f)
-  labels_kept : {values : List ℕ} {labels : Labels} → labels_declared [] (out-Block b).labels ≡ Ok values
-      → ((n : ℕ) → get nat_eq labels n ≡ noted n (sequence_marks (out-Block b).body true) (declaration_of n (out-Block b).labels None)) → LabelsMay b (Ok labels)
 
 -- constants, types and variables
 unfoldable pub parts : Stage → Block → Outcome Stage
@@ -75,16 +68,17 @@ abbrev pub head_of : Function → ℕ
 head_of f = f.head
 
 -- the block of an opening, with what is kept of its labels
-abbrev pub own_block : Opened → Labels → Labelled
+abbrev pub own_block : Opened → Kept → Labelled
 own_block p labels = record { routine = p.frame.routine; function = option_map head_of p.result; labels = labels }
 
 abbrev pub entered : Stage → Opened → Labelled → Stage
 entered s p l = record { seen = record (inside s.seen p.names l) { level = p.frame.level }; built = record s.built { frame = p.frame } }
 
 -- the block of an opening, up to its routines
-pub data BeginsMay (s : Stage) (p : Opened) (b : Block) : Outcome Stage → Type 0 where
-  in_labels : {f : Fault} → LabelsMay b (Err f) → BeginsMay s p b (Err f)
-  in_parts : {labels : Labels} {o : Outcome Stage} → LabelsMay b (Ok labels) → parts (entered s p (own_block p labels)) b ≡ o → BeginsMay s p b o
+unfoldable pub begins : Stage → Opened → Block → Outcome Stage
+begins s p b = do
+  labels ← labels_read b
+  parts (entered s p (own_block p labels)) b
 
 -- ---- headings and their blocks
 
@@ -100,27 +94,43 @@ block_of r = block_in (out-RoutineBody (out-Routine r).body)
 abbrev pub is_body_of : List ℕ → Name → Bool → Routine → Bool
 is_body_of text name function r = is_some (block_of r) && (bytes_eq name (name_at text (out-Routine r).name) && beq function (out-Routine r).function)
 
+-- a block with the number of its routine, where the routines before it are so many: each routine has the next number when it ends
+abbrev pub Numbered : Type 0
+Numbered = ℕ × Block
+
+abbrev pub numbered : ℕ → Block → Numbered
+numbered before b = (before + ends_inside b, b)
+
 -- the block of a `forward` heading among those after it: the first with its name and its word
-abbrev pub later_block : List ℕ → Name → Bool → List Routine → Option Block
-later_block text name function [] = None
-later_block text name function (r ∷ rest) = if is_body_of text name function r then block_of r else later_block text name function rest
+abbrev pub later_block : List ℕ → Name → Bool → ℕ → List Routine → Option Numbered
+later_block text name function before [] = None
+later_block text name function before (r ∷ rest) =
+    if is_body_of text name function r then option_map (numbered before) (block_of r) else later_block text name function (before + ends_of r) rest
 
-abbrev pub body_after : List ℕ → Routine → List Routine → Option Block
-body_after text r rest = later_block text (name_at text (out-Routine r).name) (out-Routine r).function rest
+abbrev pub body_after : List ℕ → Routine → ℕ → List Routine → Option Numbered
+body_after text r before rest = later_block text (name_at text (out-Routine r).name) (out-Routine r).function (before + ends_of r) rest
 
--- the block that a heading without one waits for
-abbrev pub awaited_block : List ℕ → Routine → List Routine → Option Block
-awaited_block text r rest = if is_some (block_of r) then None else body_after text r rest
+-- A heading of a block: the number of its routine, and the block that it waits for where it has none.
+pub record Planned : Type 0 where
+  pub routine : Routine
+  pub number : ℕ
+  pub later : Option Block
 
--- the headings of a block, each with the block that it waits for
-abbrev pub planned : List ℕ → List Routine → List (Routine × Option Block)
-planned text [] = []
-planned text (r ∷ rest) = (r, awaited_block text r rest) ∷ planned text rest
+-- a heading without a block waits for a later one; if there is none, it has any number
+abbrev pub plan_by : Routine → ℕ → Option Block → Option Numbered → Planned
+plan_by r before (Some b) later = record { routine = r; number = before + ends_inside b; later = None }
+plan_by r before None None = record { routine = r; number = before; later = None }
+plan_by r before None (Some p) = record { routine = r; number = p.0; later = Some p.1 }
+
+-- the headings of a block before which so many routines have ended
+abbrev pub planned : List ℕ → ℕ → List Routine → List Planned
+planned text before [] = []
+planned text before (r ∷ rest) = plan_by r before (block_of r) (body_after text r before rest) ∷ planned text (before + ends_of r) rest
 
 -- at the end of the block around, each `forward` heading has its body
 abbrev pub body_given : List ℕ → Routine → List Routine → Outcome (Unit {0})
 body_given text r rest =
-    unless (not (is_some (block_of r)) && lacks_body (is_some (body_after text r rest))) rule.Body (out-Routine r).name.start (Ok tt)
+    unless (not (is_some (block_of r)) && lacks_body (is_some (body_after text r 0 rest))) rule.Body (out-Routine r).name.start (Ok tt)
 
 abbrev pub bodies_given : List ℕ → List Routine → Outcome (Unit {0})
 bodies_given text [] = Ok tt
@@ -129,8 +139,14 @@ bodies_given text (r ∷ rest) = do
   bodies_given text rest
 
 -- what the code keeps of both
-abbrev pub later_of : Plan → Option Block
-later_of p = option_copied p.later
+abbrev pub plan_of : Plan → ℕ × Option Block
+plan_of p = (p.number, option_copied p.later)
+
+abbrev pub planned_of : Planned → ℕ × Option Block
+planned_of p = (p.number, p.later)
+
+abbrev pub planned_with : Routine → Plan → Planned
+planned_with r p = record { routine = r; number = p.number; later = option_copied p.later }
 
 abbrev pub lacking_by : Option ℕ → Outcome (Unit {0})
 lacking_by None = Ok tt
@@ -176,16 +192,22 @@ forwarded s r word h =
     (Ok (record { at = h.0; waiting = waits s.waiting (name_at h.0.seen.text (out-Routine r).name) (Some h.1) }))
 
 -- a heading with a word in the place of its block, which waits for a later block
-pub data ForwardMay (s : Standing) (r : Routine) (word : Span) (number : ℕ) (later : Option Block) : Outcome Standing → Type 0 where
-  in_forward : {f : Fault} → HeadingMay s.at r number later (Err f) → ForwardMay s r word number later (Err f)
-  headed_forward : {h : Stage × Opened} {o : Outcome Standing} → HeadingMay s.at r number later (Ok h) → forwarded s r word h ≡ o → ForwardMay s r word number later o
+unfoldable pub forward_read : Standing → Planned → Span → Outcome Standing
+forward_read s p word = do
+  h ← heading_read s.at p.routine p.number p.later
+  forwarded s p.routine word h
+
+abbrev pub opened_by : Standing → Routine → Block → ℕ → Option Opened → Outcome (Standing × Opened)
+opened_by s r b number (Some p) = do
+  done ← repeated_heading (out-Routine r)
+  Ok (record s { waiting = waits s.waiting (name_at s.at.seen.text (out-Routine r).name) None }, p)
+opened_by s r b number None = do
+  h ← heading_read s.at r number (Some b)
+  Ok (record s { at = h.0 }, h.1)
 
 -- a heading with its block, up to the block: the body of one that waits, or a heading of its own
-pub data OpenMay (s : Standing) (r : Routine) (b : Block) (number : ℕ) : Outcome (Standing × Opened) → Type 0 where
-  awaited : {p : Opened} {o : Outcome (Standing × Opened)} → waits_for s r ≡ Some p
-      → (do done ← repeated_heading (out-Routine r); Ok (record s { waiting = waits s.waiting (name_at s.at.seen.text (out-Routine r).name) None }, p)) ≡ o → OpenMay s r b number o
-  in_heading : {f : Fault} → waits_for s r ≡ None → HeadingMay s.at r number (Some b) (Err f) → OpenMay s r b number (Err f)
-  opened : {h : Stage × Opened} → waits_for s r ≡ None → HeadingMay s.at r number (Some b) (Ok h) → OpenMay s r b number (Ok (record s { at = h.0 }, h.1))
+unfoldable pub opened : Standing → Planned → Block → Outcome (Standing × Opened)
+opened s p b = opened_by s p.routine b p.number (waits_for s p.routine)
 
 -- ---- blocks
 
@@ -242,27 +264,31 @@ outer_of s = record { frame = s.built.frame; level = s.seen.level }
 abbrev pub standing : Stage → (Name → Option Opened) → Standing
 standing s waiting = record { at = s; waiting = waiting }
 
+-- the headings of a block, when its routines begin
+abbrev pub planned_in : Stage → Block → List Planned
+planned_in s b = planned s.seen.text (length s.built.routines) (out-Block b).routines
+
 mutual
   -- the block of an opening, from where the walk stands before it
   pub data BlockMay : Stage → Opened → Block → Outcome Stage → Type 0 where
-    not_begun : {s : Stage} {p : Opened} {b : Block} {f : Fault} → BeginsMay s p b (Err f) → BlockMay s p b (Err f)
-    in_routines : {s u : Stage} {p : Opened} {b : Block} {f : Fault} → BeginsMay s p b (Ok u) → RoutinesMay (standing u nothing_waits) (planned u.seen.text (out-Block b).routines) (Err f) → BlockMay s p b (Err f)
-    to_end : {s u : Stage} {p : Opened} {b : Block} {t : Standing} {o : Outcome Stage} → BeginsMay s p b (Ok u) → RoutinesMay (standing u nothing_waits) (planned u.seen.text (out-Block b).routines) (Ok t)
+    not_begun : {s : Stage} {p : Opened} {b : Block} {f : Fault} → begins s p b ≡ Err f → BlockMay s p b (Err f)
+    in_routines : {s u : Stage} {p : Opened} {b : Block} {f : Fault} → begins s p b ≡ Ok u → RoutinesMay (standing u nothing_waits) (planned_in u b) (Err f) → BlockMay s p b (Err f)
+    to_end : {s u : Stage} {p : Opened} {b : Block} {t : Standing} {o : Outcome Stage} → begins s p b ≡ Ok u → RoutinesMay (standing u nothing_waits) (planned_in u b) (Ok t)
         → EndMay s p b u.seen.text t.at o → BlockMay s p b o
 
   -- headings with their blocks, one after the other
-  pub data RoutinesMay : Standing → List (Routine × Option Block) → Outcome Standing → Type 0 where
+  pub data RoutinesMay : Standing → List Planned → Outcome Standing → Type 0 where
     no_more : {s : Standing} → RoutinesMay s [] (Ok s)
-    stops_in : {s : Standing} {r : Routine} {later : Option Block} {rest : List (Routine × Option Block)} {f : Fault} → RoutineMay s r later (Err f) → RoutinesMay s ((r, later) ∷ rest) (Err f)
-    goes_on : {s t : Standing} {r : Routine} {later : Option Block} {rest : List (Routine × Option Block)} {o : Outcome Standing} → RoutineMay s r later (Ok t) → RoutinesMay t rest o → RoutinesMay s ((r, later) ∷ rest) o
+    stops_in : {s : Standing} {p : Planned} {rest : List Planned} {f : Fault} → RoutineMay s p (Err f) → RoutinesMay s (p ∷ rest) (Err f)
+    goes_on : {s t : Standing} {p : Planned} {rest : List Planned} {o : Outcome Standing} → RoutineMay s p (Ok t) → RoutinesMay t rest o → RoutinesMay s (p ∷ rest) o
 
   -- a heading with its block, or with a word in its place, for which a later block may count
-  pub data RoutineMay : Standing → Routine → Option Block → Outcome Standing → Type 0 where
-    is_word : {s : Standing} {r : Routine} {later : Option Block} {o : Outcome Standing} (word : Span) (number : ℕ) → (out-Routine r).body ≡ body_of.Word word → ForwardMay s r word number later o → RoutineMay s r later o
-    not_opened : {s : Standing} {r : Routine} {later : Option Block} {f : Fault} (b : Block) (number : ℕ) → (out-Routine r).body ≡ body_of.Block b → OpenMay s r b number (Err f) → RoutineMay s r later (Err f)
-    in_block : {s t : Standing} {r : Routine} {later : Option Block} {p : Opened} {f : Fault} (b : Block) (number : ℕ) → (out-Routine r).body ≡ body_of.Block b → OpenMay s r b number (Ok (t, p)) → BlockMay t.at p b (Err f) → RoutineMay s r later (Err f)
-    whole_block : {s t : Standing} {r : Routine} {later : Option Block} {p : Opened} {w : Stage} (b : Block) (number : ℕ) → (out-Routine r).body ≡ body_of.Block b → OpenMay s r b number (Ok (t, p)) → BlockMay t.at p b (Ok w)
-        → RoutineMay s r later (Ok (standing w t.waiting))
+  pub data RoutineMay : Standing → Planned → Outcome Standing → Type 0 where
+    is_word : {s : Standing} {p : Planned} {o : Outcome Standing} (word : Span) → (out-Routine p.routine).body ≡ body_of.Word word → forward_read s p word ≡ o → RoutineMay s p o
+    not_opened : {s : Standing} {p : Planned} {f : Fault} (b : Block) → (out-Routine p.routine).body ≡ body_of.Block b → opened s p b ≡ Err f → RoutineMay s p (Err f)
+    in_block : {s t : Standing} {p : Planned} {q : Opened} {f : Fault} (b : Block) → (out-Routine p.routine).body ≡ body_of.Block b → opened s p b ≡ Ok (t, q) → BlockMay t.at q b (Err f) → RoutineMay s p (Err f)
+    whole_block : {s t : Standing} {p : Planned} {q : Opened} {w : Stage} (b : Block) → (out-Routine p.routine).body ≡ body_of.Block b → opened s p b ≡ Ok (t, q) → BlockMay t.at q b (Ok w)
+        → RoutineMay s p (Ok (standing w t.waiting))
 
 -- ---- programs
 
@@ -285,12 +311,12 @@ abbrev pub all_ended : List (Name × Meaning) → Names → Names
 all_ended [] names = names
 all_ended (n ∷ rest) names = all_ended rest (ended n.0 0 n.1 names)
 
--- what is seen at the beginning: nothing but these
-abbrev pub at_first : List ℕ → Labelled → Sight
-at_first text l = record {
+-- what is seen at the beginning: nothing but these; the program's routine has a number
+abbrev pub at_first : List ℕ → ℕ → Sight
+at_first text number = record {
   text = text;
   blocks = all_ended required [] ∷ [];
-  labels = l ∷ [];
+  labels = unlabelled number ∷ [];
   types = required_types;
   headings = [];
   level = 0;
@@ -300,30 +326,21 @@ at_first text l = record {
   assigned = λ n. false;
 }
 
--- the block of what every program may use has no labels
-pub record HasNone (l : Labelled) : Type 0 where
-  pub labels : (n : ℕ) → get nat_eq l.labels n ≡ None
-  pub function : l.function ≡ None
+-- the frame of a program's block, which is the last to end
+abbrev pub program_frame : Tree → Frame
+program_frame tree = frame_of tree.name (ends_inside tree.block) None 0 [] None
 
-pub record IsAtFirst (text : List ℕ) (v : Sight) : Type 0 where
-  pub outermost : Labelled
-  pub none : HasNone outermost
-  pub is : v ≡ at_first text outermost
-
--- the frame of a program's block, whose routine has a number
-abbrev pub program_frame : Tree → ℕ → Frame
-program_frame tree number = frame_of tree.name number None 0 [] None
+-- where the walk of a program begins, where nothing is built
+abbrev pub program_start : List ℕ → Tree → Stage
+program_start text tree = record { seen = at_first text (ends_inside tree.block); built = nothing_built (program_frame tree) }
 
 -- the block of a program
-abbrev pub program_opened : List ℕ → Tree → Frame → Opened
-program_opened text tree frame = record { frame = frame; function = false; names = noted_all text (names_in tree.block) []; result = None }
+abbrev pub program_opened : List ℕ → Tree → Opened
+program_opened text tree = record { frame = program_frame tree; function = false; names = noted_all text (names_in tree.block) []; result = None }
 
--- What a program may answer, from the beginning, where nothing is built.
-pub record ProgramMay (text : List ℕ) (tree : Tree) (o : Outcome Stage) : Type 0 where
-  pub outermost : Labelled
-  pub none : HasNone outermost
-  pub number : ℕ
-  pub answers : BlockMay (record { seen = at_first text outermost; built = nothing_built (program_frame tree number) }) (program_opened text tree (program_frame tree number)) tree.block o
+-- what a program may answer
+abbrev pub ProgramMay : List ℕ → Tree → Outcome Stage → Type 0
+ProgramMay text tree o = BlockMay (program_start text tree) (program_opened text tree) tree.block o
 
 -- The rule is broken at the place, and no rule is before it in the order of the text.
 abbrev pub IsFirstBroken : List ℕ → Tree → Rule → ℕ → Type 0

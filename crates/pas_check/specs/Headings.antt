@@ -1,5 +1,5 @@
--- The heading of a routine (ISO 7185, 6.6.1 and 6.6.2), and what it may answer: where the walk stands after it with what its block
--- begins with, or the fault of the first rule that it breaks.
+-- The heading of a routine (ISO 7185, 6.6.1 and 6.6.2): where the walk stands after it with what its block begins with, or the
+-- fault of the first rule that it breaks.
 use Rattle.std.specs.Prelude.{◌≡◌, ℕ, ◌+◌, List, [], ◌∷◌, ◌++◌, length, flat_map, Bool, Option, Some, None, Ok, Err}
 use Rattle.std.specs.Option.{option_map}
 use Rattle.px_base.specs.declared.place.Span.{Span}
@@ -7,7 +7,6 @@ use Rattle.pas_program.specs.declared.variable.VarKind.TheVariants as kind
 use Rattle.pas_tree.specs.declared.block.Block.{Block}
 use Rattle.pas_tree.specs.declared.block.Routine.{Routine}
 use Rattle.pas_tree.specs.declared.block.RoutineBody.TheViews.{out-Routine}
-use Rattle.pas_check.specs.declared.fault.Fault.{Fault}
 use Rattle.pas_check.specs.declared.meaning.Meaning.TheVariants as means
 use Rattle.pas_check.specs.declared.meaning.Variable.{Variable}
 use Rattle.pas_check.specs.declared.heading.Function.{Function}
@@ -19,7 +18,7 @@ use Rattle.pas_check.specs.Built.{frame_of, variable_of, with_variable}
 use Rattle.pas_check.specs.Declarations.{defined, led_by}
 use Rattle.pas_check.specs.Expr.{claimed}
 use Rattle.pas_check.specs.Formals.{Formed, section_declared}
-use Rattle.pas_check.specs.Labels.{Labelled}
+use Rattle.pas_check.specs.Labels.{Labelled, unlabelled}
 use Rattle.pas_check.specs.Names.{Names, noted_all}
 use Rattle.pas_check.specs.Outcome.{Outcome, ◌>>=◌}
 use Rattle.pas_check.specs.Routine.{heading_allowed, result_type}
@@ -105,14 +104,13 @@ abbrev pub owner_in : Sight → ℕ → Owner
 owner_in v number = record { routine = number; level = v.level + 1 }
 
 -- before the formals, whose names belong to the routine's own block
-abbrev pub unformed : Stage → Sight → Routine → Option Block → Labelled → Formed
-unformed s u r later l = record { at = record s { seen = inside u (own_names u r later) l }; formals = []; numbers = [] }
+abbrev pub unformed : Stage → Sight → Routine → ℕ → Option Block → Formed
+unformed s u r number later = record { at = record s { seen = inside u (own_names u r later) (unlabelled number) }; formals = []; numbers = [] }
 
-pub data HeadingMay (s : Stage) (r : Routine) (number : ℕ) (later : Option Block) : Outcome (Stage × Opened) → Type 0 where
-  not_begun : {f : Fault} → begun s.seen r ≡ Err f → HeadingMay s r number later (Err f)
-  in_formals : {u : Sight} {f : Fault} (l : Labelled) → begun s.seen r ≡ Ok u → led_by (section_declared (owner_in s.seen number)) (unformed s u r later l) (out-Routine r).formals ≡ Err f → HeadingMay s r number later (Err f)
-  in_result : {u : Sight} {x : Formed} {f : Fault} (l : Labelled) → begun s.seen r ≡ Ok u → led_by (section_declared (owner_in s.seen number)) (unformed s u r later l) (out-Routine r).formals ≡ Ok x
-      → result_read (outside x.at.seen) (out-Routine r).result ≡ Err f → HeadingMay s r number later (Err f)
-  whole : {u : Sight} {x : Formed} {t : Option ℕ} (l : Labelled) → begun s.seen r ≡ Ok u → led_by (section_declared (owner_in s.seen number)) (unformed s u r later l) (out-Routine r).formals ≡ Ok x
-      → result_read (outside x.at.seen) (out-Routine r).result ≡ Ok t
-      → HeadingMay s r number later (Ok (headed_with s r (owner_in s.seen number) x (result_declared (owner_in s.seen number) (out-Routine r).name t x.at.built)))
+-- a heading that declares its name, of a routine by its number, with the block whose names belong to it
+unfoldable pub heading_read : Stage → Routine → ℕ → Option Block → Outcome (Stage × Opened)
+heading_read s r number later = do
+  u ← begun s.seen r
+  x ← led_by (section_declared (owner_in s.seen number)) (unformed s u r number later) (out-Routine r).formals
+  t ← result_read (outside x.at.seen) (out-Routine r).result
+  Ok (headed_with s r (owner_in s.seen number) x (result_declared (owner_in s.seen number) (out-Routine r).name t x.at.built))

@@ -34,18 +34,29 @@ pub data MayReach (is_sequence : Path → Bool) (p : Path) : Path → Type 0 whe
 
 -- ---- by places, as the walk keeps it: Placing.antt has which places, and that they say the same as the paths
 
--- the labels of a block by their values
+-- the table of a block's labels by their values
 abbrev pub Labels : Type 0
 Labels = HashMap ℕ LabelDecl (BuildHasherDefault FoldHasher)
+
+-- what is kept of the labels of a block, by their values
+abbrev pub Kept : Type 0
+Kept = ℕ → Option LabelDecl
+
+abbrev pub kept_in : Labels → Kept
+kept_in labels = get nat_eq labels
 
 -- a block by the number of its routine, the function whose block it is, by its heading, and its labels
 pub record Labelled : Type 0 where
   pub routine : ℕ
   pub function : Option ℕ
-  pub labels : Labels
+  pub labels : Kept
 
 abbrev pub labelled : Scope → Labelled
-labelled s = record { routine = s.routine; function = s.function; labels = s.labels }
+labelled s = record { routine = s.routine; function = s.function; labels = kept_in s.labels }
+
+-- a block without labels that is no function's
+abbrev pub unlabelled : ℕ → Labelled
+unlabelled routine = record { routine = routine; function = None; labels = λ n. None }
 
 -- of a label's statement: the first and the last place of what may leave for it, and whether it is a member of the outermost
 -- sequence, for which inner routines may leave too
@@ -90,11 +101,11 @@ place_of None = None
 place_of (Some d) = place_by d.placed
 
 -- the place of the first statement that has a label of the block
-abbrev pub place_in : Labels → ℕ → Option ℕ
-place_in labels value = place_of (get nat_eq labels value)
+abbrev pub place_in : Kept → ℕ → Option ℕ
+place_in labels value = place_of (labels value)
 
 -- at the end of the block, a label of its label part
-abbrev pub label_placed : Labels → Label → Outcome (Unit {0})
+abbrev pub label_placed : Kept → Label → Outcome (Unit {0})
 label_placed labels l = unless (is_unplaced (place_in labels l.value)) rule.Label l.at.start (Ok tt)
 
 abbrev pub placed_in : List Labelled → Label → Outcome (Unit {0})
@@ -102,7 +113,7 @@ placed_in [] l = Err (Broken rule.Label l.at.start)
 placed_in (s ∷ around) l = label_placed s.labels l
 
 -- a label before a statement
-abbrev pub placed_label : Labels → Label → Outcome ℕ
+abbrev pub placed_label : Kept → Label → Outcome ℕ
 placed_label labels l = unless (is_misplaced (place_in labels l.value) l.at.start) rule.Label l.at.start (Ok l.value)
 
 -- the block of the statement is the innermost one around
@@ -123,7 +134,7 @@ left_by around routine l at inner (Some d) = unless (is_out_of_reach inner at d)
 
 abbrev pub left_for : List Labelled → Label → ℕ → Bool → Outcome ℕ
 left_for [] l at inner = Err (Broken rule.Label l.at.start)
-left_for (s ∷ around) l at inner = left_by (left_for around l at false) s.routine l at inner (get nat_eq s.labels l.value)
+left_for (s ∷ around) l at inner = left_by (left_for around l at false) s.routine l at inner (s.labels l.value)
 
 abbrev pub goto_allowed : List Labelled → Label → ℕ → Outcome (Unit {0})
 goto_allowed scopes l at = do

@@ -1,7 +1,9 @@
 -- The labelled statements of a statement part: where they stand, and the places that are kept of them (ISO 7185, 6.8.1).
-use Rattle.std.specs.Prelude.{◌≡◌, ◌↔◌, ℕ, zero, suc, ◌<◌, ◌≤◌, max, nat_eq, nat_le, Bool, true, false, if◌then◌else◌, List, [], ◌∷◌, ◌++◌, map, Option, Some, None}
+use Rattle.std.specs.Prelude.{◌≡◌, ◌↔◌, ℕ, zero, suc, ◌<◌, ◌≤◌, max, nat_eq, nat_le, Bool, true, false, if◌then◌else◌, List, [], ◌∷◌, ◌++◌, map, Option, Some, None, Ok}
 use Rattle.indexmap.specs.IndexMap.{get}
+use Rattle.pas_tree.specs.declared.block.Block.{Block}
 use Rattle.pas_tree.specs.declared.block.Label.{Label}
+use Rattle.pas_tree.specs.declared.block.RoutineBody.TheViews.{out-Block}
 use Rattle.pas_tree.specs.declared.statement.Body.{Body}
 use Rattle.pas_tree.specs.declared.statement.Body.TheOpen.{Body-F, Element-F, Statement-F}
 use Rattle.pas_tree.specs.declared.statement.Body.TheFolds.{fold-Body, fold-Element, fold-Statement}
@@ -10,7 +12,8 @@ use Rattle.pas_tree.specs.declared.statement.Element.{Element}
 use Rattle.pas_tree.specs.declared.statement.Statement.{Statement}
 use Rattle.pas_check.specs.declared.label.LabelDecl.{LabelDecl}
 use Rattle.pas_check.specs.declared.label.Placement.{Placement}
-use Rattle.pas_check.specs.Labels.{Labels, MayReach, Path, may_reach}
+use Rattle.pas_check.specs.Labels.{Kept, Labels, MayReach, Path, declaration_of, labels_declared, may_reach}
+use Rattle.pas_check.specs.Outcome.{Outcome, ◌>>=◌}
 
 -- ---- statements without what they do
 
@@ -193,6 +196,16 @@ noted n ms (Some d) = Some (record { at = d.at; placed = first_of n ms d.placed 
 -- each declared label has its first statement; a label that is not declared is passed over
 abbrev pub Notes : Labels → List Mark → Labels → Type 0
 Notes old ms new = (n : ℕ) → get nat_eq new n ≡ noted n ms (get nat_eq old n)
+
+-- a block's labels with their statements
+abbrev pub marked : Block → Kept
+marked b n = noted n (sequence_marks (out-Block b).body true) (declaration_of n (out-Block b).labels None)
+
+-- the label part of a block
+unfoldable pub labels_read : Block → Outcome Kept
+labels_read b = do
+  values ← labels_declared [] (out-Block b).labels
+  Ok (marked b)
 
 -- the statements in a statement
 abbrev pub below : Content → List Mark

@@ -3,11 +3,12 @@
 ghost use Rattle.std.specs.Prelude.{◌≡◌, ℕ, List, IfErr, IfOk, OnOk, Some, length};
 ghost use Rattle.std.specs.Option.{option_map};
 ghost use Rattle.pas_check.specs.Blocks as spec;
-ghost use Rattle.pas_check.specs.Blocks.{BeginsMay, BlockMay, EndMay, bodies_given, entered, lacking_by, outer_of, own_block, parts, program_frame, program_opened, statements_ended};
+ghost use Rattle.pas_check.specs.Block.{ends_inside};
+ghost use Rattle.pas_check.specs.Blocks.{BlockMay, EndMay, begins, bodies_given, entered, lacking_by, outer_of, own_block, parts, program_opened, statements_ended};
 ghost use Rattle.pas_check.specs.Built.{with_routine};
 ghost use Rattle.pas_check.specs.Declarations.{const_declared, led, led_by, local_declared, type_declared, var_declared};
 ghost use Rattle.pas_check.specs.Headings.{inside, outside};
-ghost use Rattle.pas_check.specs.Labels.{labelled};
+ghost use Rattle.pas_check.specs.Labels.{kept_in, labelled};
 ghost use Rattle.pas_check.specs.Outcome.{Gives, IsMemory, Meets};
 ghost use Rattle.pas_check.specs.Sight.{innermost, sight};
 ghost use Rattle.pas_check.specs.Stage.{Stage, stage};
@@ -21,7 +22,7 @@ use crate::frame::Frame;
 use crate::heading::{Function, Opened};
 use crate::label::{LabelDecl, labels_of};
 use crate::meaning::{Meaning, Variable};
-use crate::scope::Scope;
+use crate::scope::{Names, Scope};
 use crate::waiting::Waiting;
 use indexmap::IndexMap;
 use pas_program::{Body, Statement, VarKind};
@@ -41,12 +42,12 @@ struct Outer {
 impl<'t> Checker<'t> {
     /// The program's block.
     pub fn program(&mut self, tree: &Tree) -> Result<(), Fault>
-        ensures value { Meets (λ u. stage self.new) (BlockMay (stage self.old) (program_opened (sight self.old.seen).text tree.now (program_frame tree.now self.old.made.built.frame.routine)) tree.now.block) result }
+        ensures value { self.old.made.built.frame.routine ≡ ends_inside tree.now.block → Meets (λ u. stage self.new) (BlockMay (stage self.old) (program_opened (sight self.old.seen).text tree.now) tree.now.block) result }
     {
         let routine = self.made.built.frame.routine;
-        let mut scope = Scope::new(self.seen.alloc, routine);
+        let mut names = Names::new(self.seen.alloc);
         self.seen
-            .note_block(&mut self.made.lower, &mut scope, &tree.block)?;
+            .note_block(&mut self.made.lower, &mut names, &tree.block)?;
         let no_formals = Items::new(self.seen.alloc);
         let opened = Opened {
             frame: Frame::new(
@@ -59,7 +60,7 @@ impl<'t> Checker<'t> {
                 None,
             ),
             function: false,
-            names: scope.names,
+            names,
             result: None,
         };
         self.block(&tree.block, opened)
@@ -72,7 +73,9 @@ impl<'t> Checker<'t> {
     {
         let function = opened.result;
         let outer = self.begin(block, opened)?;
-        let first = u32::try_from(self.made.built.routines.len()).unwrap_or(u32::MAX);
+        let Ok(first) = u32::try_from(self.made.built.routines.len()) else {
+            return Err(Fault::Memory(AllocError));
+        };
         let routines = block.routines.as_slice();
         let mut plans = self.seen.plans(&mut self.made.lower, first, routines)?;
         let mut waiting = Waiting::new(self.seen.alloc);
@@ -81,8 +84,9 @@ impl<'t> Checker<'t> {
     }
 
     /// The block of an opening, up to its routines.
+    #[tactic(auto, unfolding(crate::specs::Blocks::begins))]
     fn begin(&mut self, block: &Block, opened: Opened) -> Result<Outer, Fault>
-        ensures value { Meets (λ o. stage self.new) (BeginsMay (stage self.old) opened block.now) result }
+        ensures value { Gives (λ o. stage self.new) (begins (stage self.old) opened block.now) result }
         ensures outer { IfOk result (λ o. o ≡ outer_of (stage self.old)) }
     {
         let labels = labels_of(self.seen.alloc, block)?;
@@ -94,7 +98,7 @@ impl<'t> Checker<'t> {
     /// Goes into the block of an opening, with its labels.
     #[tactic(auto, unfolding(crate::specs::Sight::sight))]
     fn enter(&mut self, opened: Opened, labels: IndexMap<u32, LabelDecl>) -> Result<Outer, Fault>
-        ensures entered { OnOk result (stage self.new ≡ entered (stage self.old) opened (own_block opened labels)) }
+        ensures entered { OnOk result (stage self.new ≡ entered (stage self.old) opened (own_block opened (kept_in labels))) }
         ensures outer { IfOk result (λ o. o ≡ outer_of (stage self.old)) }
         ensures memory { IfErr result IsMemory }
     {
@@ -303,7 +307,7 @@ impl<'t> Checker<'t> {
     {
         match self.seen.scopes.pop() {
             Some(scope) => scope,
-            None => Scope::new(self.seen.alloc, number),
+            None => Scope::new(self.seen.alloc, number, Names::new(self.seen.alloc)),
         }
     }
 }

@@ -1,12 +1,14 @@
-ghost use Rattle.std.specs.Prelude.{◌≡◌, [], IfErr, IfOk, OnOk, length, map, true};
+ghost use Rattle.std.specs.Prelude.{◌≡◌, ℕ, [], List, IfErr, IfOk, length, map, true};
+ghost use Rattle.pas_tree.specs.declared.block.Tree.{Tree as Parsed};
 ghost use Rattle.pas_check.specs.Accepted.{IsProgramOf};
-ghost use Rattle.pas_check.specs.Blocks.{HasNone, IsAtFirst, IsSound, IsSoundFault, all_ended, at_first, program_frame, required};
+ghost use Rattle.pas_check.specs.Blocks.{IsSound, IsSoundFault, ProgramMay, all_ended, at_first, program_start, required};
 ghost use Rattle.pas_check.specs.Built.{nothing_built};
 ghost use Rattle.pas_check.specs.Fault.{IsWithin};
 ghost use Rattle.pas_check.specs.Headings.{inside};
-ghost use Rattle.pas_check.specs.Labels.{Labelled, labelled};
-ghost use Rattle.pas_check.specs.Outcome.{IsMemory};
+ghost use Rattle.pas_check.specs.Labels.{labelled, unlabelled};
+ghost use Rattle.pas_check.specs.Outcome.{IsMemory, Outcome};
 ghost use Rattle.pas_check.specs.Sight.{sight};
+ghost use Rattle.pas_check.specs.Stage.{Stage, stage};
 ghost use Rattle.pas_program.specs.Checked.{tables};
 ghost use Rattle.pas_program.specs.Labels.{AssertsStand, ConstantsDiffer, ControlsAreLocal, LabelsStand};
 
@@ -65,11 +67,17 @@ fn checked(alloc: Global, text: &[u8], tree: &Tree) -> Result<Program, Fault>
     checker.into_program()
 }
 
+/// A law: a tree has one answer. So a tree that breaks a rule has one first rule that it breaks, at one place, and no program; and a
+/// tree that breaks none has one program.
+pub fn a_tree_has_one_answer()
+    ensures { (text : List ℕ) (tree : Parsed) (o u : Outcome Stage) → ProgramMay text tree o → ProgramMay text tree u → o ≡ u }
+{}
+
 impl<'t> Seen<'t> {
     /// What is seen outside all blocks.
     #[tactic(auto, unfolding(crate::specs::Sight::sight))]
     fn new(alloc: Global, text: &'t [u8]) -> Result<Seen<'t>, Fault>
-        ensures first { IfOk result (λ s. (l : Labelled) → inside (sight s) (all_ended required []) l ≡ at_first text.now l) }
+        ensures first { IfOk result (λ s. (number : ℕ) → inside (sight s) (all_ended required []) (unlabelled number) ≡ at_first text.now number) }
         ensures memory { IfErr result IsMemory }
     {
         Ok(Seen {
@@ -103,11 +111,10 @@ impl Made {
 
 impl<'t> Checker<'t> {
     fn new(alloc: Global, text: &'t [u8], tree: &Tree) -> Result<Checker<'t>, Fault>
-        ensures first { IfOk result (λ c. IsAtFirst text.now (sight c.seen)) }
-        ensures nothing { IfOk result (λ c. c.made.built ≡ nothing_built (program_frame tree.now c.made.built.frame.routine)) }
+        ensures first { IfOk result (λ c. stage c ≡ program_start text.now tree.now) }
         ensures memory { IfErr result IsMemory }
     {
-        let number = count_bodies(&tree.block);
+        let number = count_bodies(&tree.block).map_err(Fault::Memory)?;
         let frame = Frame::new(alloc, tree.name, number, None, 0, Items::new(alloc), None);
         let mut checker = Checker {
             seen: Seen::new(alloc, text)?,
@@ -188,16 +195,11 @@ fn required_names() -> [(&'static str, Meaning); 15]
 /// The block above the program's: what every program may use.
 fn outermost(alloc: Global, routine: u32) -> Result<Scope, AllocError>
     ensures names { IfOk result (λ s. s.names ≡ all_ended required []) }
-    ensures none { IfOk result (λ s. HasNone (labelled s)) }
+    ensures labels { IfOk result (λ s. labelled s ≡ unlabelled routine) }
 {
     let mut names = Names::new(alloc);
     for (name, meaning) in required_names() {
         names.end(alloc, name.as_bytes(), 0, meaning)?;
     }
-    Ok(Scope {
-        routine,
-        function: None,
-        names,
-        labels: IndexMap::new(alloc),
-    })
+    Ok(Scope::new(alloc, routine, names))
 }

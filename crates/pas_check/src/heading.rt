@@ -7,8 +7,8 @@ ghost use Rattle.pas_check.specs.Declarations.{led, led_by, name_claimed};
 ghost use Rattle.pas_check.specs.Formals as formal;
 ghost use Rattle.pas_check.specs.Formals.{formal_declared, formed_by};
 ghost use Rattle.pas_check.specs.Headings as spec;
-ghost use Rattle.pas_check.specs.Headings.{HeadingMay, begun, headed, number_of, own_names, result_declared, result_read, type_of_variable};
-ghost use Rattle.pas_check.specs.Outcome.{Gives, IsMemory, Meets};
+ghost use Rattle.pas_check.specs.Headings.{begun, headed, heading_read, number_of, own_names, result_declared, result_read, type_of_variable};
+ghost use Rattle.pas_check.specs.Outcome.{Gives, IsMemory};
 ghost use Rattle.pas_check.specs.Routine as allowed;
 ghost use Rattle.pas_check.specs.Sight.{heading_of, sight};
 ghost use Rattle.pas_check.specs.Stage.{stage};
@@ -144,22 +144,21 @@ fn function_of(head: usize, at: u32, result_variable: Option<Variable>) -> Optio
 impl<'t> Seen<'t> {
     /// The names of a routine's own block: its formals, and what the block declares.
     #[tactic(auto, unfolding(crate::specs::Sight::sight))]
-    fn own_scope(
+    fn own_names(
         &self,
         lower: &mut Vec<u8>,
-        owner: Owner,
         routine: &Routine,
         block: Option<&Block>,
-    ) -> Result<Scope, Fault>
-        ensures names { IfOk result (λ s. s.names ≡ own_names (sight self.now) routine.now (option_copied block.entry)) }
+    ) -> Result<Names, Fault>
+        ensures names { IfOk result (λ names. names ≡ own_names (sight self.now) routine.now (option_copied block.entry)) }
         ensures memory { IfErr result IsMemory }
     {
-        let mut scope = Scope::new(self.alloc, owner.routine);
-        self.note_formals(lower, &mut scope, routine.formals.as_slice())?;
+        let mut names = Names::new(self.alloc);
+        self.note_formals(lower, &mut names, routine.formals.as_slice())?;
         if let Some(block) = block {
-            self.note_block(lower, &mut scope, block)?;
+            self.note_block(lower, &mut names, block)?;
         }
-        Ok(scope)
+        Ok(names)
     }
 
     /// The type of a function's result, which is a scalar.
@@ -204,23 +203,24 @@ impl Made {
 
 impl<'t> Checker<'t> {
     /// A heading that declares its name, up to the block.
+    #[tactic(auto, unfolding(crate::specs::Headings::heading_read))]
     pub fn heading(
         &mut self,
         routine: &Routine,
         number: u32,
         block: Option<&Block>,
     ) -> Result<Opened, Fault>
-        ensures value { Meets (λ o. (stage self.new, o)) (HeadingMay (stage self.old) routine.now number (option_copied block.entry)) result }
+        ensures value { Gives (λ o. (stage self.new, o)) (heading_read (stage self.old) routine.now number (option_copied block.entry)) result }
     {
         let begun = self.begun(routine)?;
         let owner = Owner {
             routine: number,
             level: begun.level,
         };
-        let scope = self
+        let names = self
             .seen
-            .own_scope(&mut self.made.lower, owner, routine, block)?;
-        self.push_scope(scope)?;
+            .own_names(&mut self.made.lower, routine, block)?;
+        self.push_scope(Scope::new(self.seen.alloc, number, names))?;
         let formals = self.formals(owner, routine.formals.as_slice())?;
         let scope = self.pop_scope(number);
         let result = self.result(owner, routine.name, routine.result)?;

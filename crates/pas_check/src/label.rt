@@ -6,11 +6,10 @@ ghost use Rattle.indexmap.specs.IndexMap.{get, keys};
 ghost use Rattle.pas_tree.specs.declared.statement.Statement.{Statement};
 ghost use Rattle.pas_check.specs.declared.label.LabelDecl.{LabelDecl};
 ghost use Rattle.pas_check.specs.Labels as spec;
-ghost use Rattle.pas_check.specs.Blocks.{LabelsMay};
-ghost use Rattle.pas_check.specs.Labels.{declaration_of, label_before, labelled, labels_declared, placed_in};
-ghost use Rattle.pas_check.specs.Outcome.{Gives, Meets, each};
+ghost use Rattle.pas_check.specs.Labels.{declaration_of, kept_in, label_before, labelled, labels_declared, placed_in};
+ghost use Rattle.pas_check.specs.Outcome.{Gives, each};
 ghost use Rattle.pas_check.specs.Placing as placing;
-ghost use Rattle.pas_check.specs.Placing.{Branches, IsPlacedRightly, Members, Notes, Nothing, PlacesRise, arm_of, below, content, content_of, end_of, in_order, label_mark, last_place, marks, marks_inside, member_marks, or_nothing, outline, outline_of, sequence_marks};
+ghost use Rattle.pas_check.specs.Placing.{Branches, IsPlacedRightly, Members, Notes, Nothing, PlacesRise, arm_of, below, content, content_of, end_of, in_order, label_mark, labels_read, last_place, marks, marks_inside, member_marks, or_nothing, outline, outline_of, sequence_marks};
 ghost use Rattle.pas_check.specs.Sight.{sight};
 ghost use Rattle.pas_check.specs.StatementForms.{goto_form, label_value};
 
@@ -285,7 +284,7 @@ fn declare_labels(labels: &mut IndexMap<u32, LabelDecl>, label_part: &[Label]) -
 
 /// The labels of a block by their values, with the statements that have them.
 pub fn labels_of(alloc: Global, block: &Block) -> Result<IndexMap<u32, LabelDecl>, Fault>
-    ensures value { Meets (λ labels. labels) (LabelsMay block.now) result }
+    ensures value { Gives (λ labels. kept_in labels) (labels_read block.now) result }
 {
     let mut labels = IndexMap::new(alloc);
     declare_labels(&mut labels, block.labels.as_slice())?;
@@ -307,7 +306,7 @@ fn place_labels(labels: &mut IndexMap<u32, LabelDecl>, body: &[Statement]) -> Re
 impl Scope {
     /// Tests a label at a statement of the block: the block declares it, and no statement before has it.
     fn placed_label(&self, label: Label) -> Result<u32, Fault>
-        ensures value { Gives (λ n. n) (spec.placed_label self.now.labels label) result }
+        ensures value { Gives (λ n. n) (spec.placed_label (kept_in self.now.labels) label) result }
     {
         match self.place_of(label.value) {
             Some(at) if at == label.at.start => Ok(label.value),
@@ -317,7 +316,7 @@ impl Scope {
 
     /// The place of the first statement that has a label of the block.
     fn place_of(&self, value: u32) -> Option<u32>
-        ensures { result ≡ spec.place_in self.now.labels value }
+        ensures { result ≡ spec.place_in (kept_in self.now.labels) value }
     {
         match self.labels.get(&value) {
             Some(declared) => match declared.placed {

@@ -30,7 +30,7 @@ mod type_expr;
 mod types;
 mod waiting;
 
-pub use checker::check;
+pub use checker::{a_tree_has_one_answer, check};
 pub use fault::CheckFault;
 pub use label::places_say_the_same_as_paths;
 pub use names::names_mean_by_the_rules;

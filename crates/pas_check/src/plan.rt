@@ -1,19 +1,20 @@
 //! What a block declares, before its walk begins.
 
-ghost use Rattle.std.specs.Prelude.{◌≡◌, ◌&&◌, ◌++◌, ◌∷◌, [], Bool, IfErr, IfOk, List, None, OnOk, Some, flat_map, if◌then◌else◌, is_some, map, reverse};
+ghost use Rattle.std.specs.Prelude.{◌≡◌, ℕ, ◌+◌, ◌&&◌, ◌++◌, ◌∷◌, [], Bool, IfErr, IfOk, List, None, OnOk, Some, flat_map, if◌then◌else◌, is_some, map, reverse};
 ghost use Rattle.std.specs.Bool.{beq};
 ghost use Rattle.std.specs.Option.{option_map};
 ghost use Rattle.std.specs.Str.{bytes_eq};
 ghost use Rattle.pas_tree.specs.declared.block.Routine.{Routine};
-ghost use Rattle.pas_check.specs.Block.{const_name, names_in, routine_name, section_names, type_name, var_names};
-ghost use Rattle.pas_check.specs.Blocks.{bodies_given, lacking_by, later_of, planned};
+ghost use Rattle.pas_check.specs.Block.{const_name, ends_inside, ends_of, names_in, routine_name, section_names, type_name, var_names};
+ghost use Rattle.pas_check.specs.Blocks.{block_of, bodies_given, lacking_by, plan_of, planned, planned_of};
 ghost use Rattle.pas_check.specs.Names.{Name, name_at, noted, noted_all};
 ghost use Rattle.pas_check.specs.Outcome.{IsMemory};
-ghost use Rattle.pas_check.specs.Plans.{ArePlanned, block_at, block_by, block_given};
+ghost use Rattle.pas_check.specs.Plans as spec;
+ghost use Rattle.pas_check.specs.Plans.{ArePlanned, block_at, block_by, block_given, numbers_from, waiting_plan};
 
 use crate::fault::Fault;
 use crate::names::{lower_case, spelling};
-use crate::scope::Scope;
+use crate::scope::Names;
 use crate::seen::Seen;
 use indexmap::IndexMap;
 use pas_tree::{Block, ConstDecl, Routine, RoutineBody, Section, TypeDecl, VarDecl};
@@ -103,41 +104,63 @@ fn set_body<'b>(
 }
 
 /// How many routines have their statement parts inside a block, without the block's own.
+#[tactic(auto, unfolding(crate::specs::Block::ends_inside, crate::specs::Block::ends_of))]
 #[cycle(count)]
-pub fn count_bodies(block: &Block) -> u32 {
+pub fn count_bodies(block: &Block) -> Result<u32, AllocError>
+    ensures { IfOk result (λ n. n ≡ ends_inside block.now) }
+{
     let mut count = 0u32;
     for routine in block.routines.as_slice() {
-        count = count.saturating_add(count_routine(routine));
+        count = sum(count, count_routine(routine)?)?;
     }
-    count
+    Ok(count)
 }
 
+/// The same with the routine's own, if it has a block.
+#[tactic(auto, unfolding(crate::specs::Block::ends_inside, crate::specs::Block::ends_of))]
 #[cycle(count)]
-fn count_routine(routine: &Routine) -> u32 {
+fn count_routine(routine: &Routine) -> Result<u32, AllocError>
+    ensures { IfOk result (λ n. n ≡ ends_of routine.now) }
+{
     match &routine.body {
-        RoutineBody::Block(block) => count_bodies(block).saturating_add(1),
-        RoutineBody::Word(_) => 0,
+        RoutineBody::Block(block) => sum(count_bodies(block)?, 1),
+        RoutineBody::Word(_) => Ok(0),
     }
 }
 
-fn push(numbers: &mut Vec<u32>, number: u32) -> Result<(), AllocError> {
+/// The sum of two counts of routines, for which there is room.
+fn sum(a: u32, b: u32) -> Result<u32, AllocError>
+    ensures { IfOk result (λ n. n ≡ a + b) }
+{
+    a.checked_add(b).ok_or(AllocError)
+}
+
+fn push(numbers: &mut Vec<u32>, number: u32) -> Result<(), AllocError>
+    ensures { OnOk result (numbers.new.items ≡ numbers.old.items ++ number ∷ []) }
+{
     numbers.push(number)?;
     Ok(())
 }
 
-/// The numbers of routines with blocks: each has the next one after those inside it. A heading without a block has any.
-fn numbers(alloc: Global, first: u32, routines: &[Routine]) -> Result<Vec<u32>, AllocError> {
+/// The number of the routine of a heading with a block, before which so many routines end. A heading without a block has any.
+fn own_number(before: u32, routine: &Routine) -> Result<u32, AllocError>
+    ensures { IfOk result (λ n. n ≡ spec.own_number before (block_of routine.now)) }
+{
+    match &routine.body {
+        RoutineBody::Block(block) => sum(before, count_bodies(block)?),
+        RoutineBody::Word(_) => Ok(before),
+    }
+}
+
+/// The numbers of the routines of headings, before which so many routines end.
+fn numbers(alloc: Global, first: u32, routines: &[Routine]) -> Result<Vec<u32>, AllocError>
+    ensures { IfOk result (λ numbers. numbers.items ≡ numbers_from first routines.now) }
+{
     let mut numbers = Vec::new(alloc);
-    let mut next = first;
+    let mut before = first;
     for routine in routines {
-        match &routine.body {
-            RoutineBody::Word(_) => push(&mut numbers, next)?,
-            RoutineBody::Block(block) => {
-                let number = next.saturating_add(count_bodies(block));
-                push(&mut numbers, number)?;
-                next = number.saturating_add(1);
-            }
-        }
+        push(&mut numbers, own_number(before, routine)?)?;
+        before = sum(before, count_routine(routine)?)?;
     }
     Ok(numbers)
 }
@@ -153,7 +176,7 @@ impl<'b> Plans<'b> {
 
     /// A heading without a block, at a place, and the body that comes after it.
     fn wait(&mut self, number: u32, at: u32, body: Option<Body<'b>>) -> Result<(), AllocError>
-        ensures later { OnOk result (map later_of self.new.list.items ≡ map later_of self.old.list.items ++ option_map block_by body.entry ∷ []) }
+        ensures plan { OnOk result (map plan_of self.new.list.items ≡ map plan_of self.old.list.items ++ waiting_plan number (option_map block_by body.entry) ∷ []) }
         ensures lacking { OnOk result (self.new.lacking ≡ (if is_some body.entry then self.old.lacking else Some at)) }
     {
         match body {
@@ -175,14 +198,14 @@ impl<'b> Plans<'b> {
 impl<'t> Seen<'t> {
     /// The numbers of the headings of a block, and which of them go together.
     ///
-    /// `first` is the number of the first routine of the block that ends.
+    /// `first` is the number of routines that have ended before.
     pub fn plans<'b>(
         &self,
         lower: &mut Vec<u8>,
         first: u32,
         routines: &'b [Routine],
     ) -> Result<Plans<'b>, Fault>
-        ensures later { IfOk result (λ plans. map later_of (reverse plans.list.items) ≡ map (λ p. p.1) (planned self.now.text.now routines.now)) }
+        ensures plans { IfOk result (λ plans. map plan_of (reverse plans.list.items) ≡ map planned_of (planned self.now.text.now first routines.now)) }
         ensures lacking { IfOk result (λ plans. lacking_by plans.lacking ≡ bodies_given self.now.text.now routines.now) }
         ensures memory { IfErr result IsMemory }
     {
@@ -210,7 +233,8 @@ impl<'t> Seen<'t> {
         bodies: &mut Bodies<'b>,
         plans: &mut Plans<'b>,
     ) -> Result<(), Fault>
-        ensures value { (rest : List Routine) → ArePlanned self.now.text.now bodies.old plans.old rest → OnOk result (ArePlanned self.now.text.now bodies.new plans.new (routine.now ∷ rest)) }
+        ensures value { (before : ℕ) → (rest : List Routine) → number ≡ spec.own_number before (block_of routine.now) → ArePlanned self.now.text.now bodies.old plans.old (before + ends_of routine.now) rest
+            → OnOk result (ArePlanned self.now.text.now bodies.new plans.new before (routine.now ∷ rest)) }
         ensures memory { IfErr result IsMemory }
     {
         lower_case(spelling(self.text, routine.name), lower).map_err(Fault::Memory)?;
@@ -241,30 +265,30 @@ impl<'t> Seen<'t> {
     pub fn note_block(
         &self,
         lower: &mut Vec<u8>,
-        scope: &mut Scope,
+        declared: &mut Names,
         block: &Block,
     ) -> Result<(), Fault>
-        ensures names { OnOk result (scope.new.names ≡ noted_all self.now.text.now (names_in block.now) scope.old.names) }
+        ensures names { OnOk result (declared.new ≡ noted_all self.now.text.now (names_in block.now) declared.old) }
         ensures memory { IfErr result IsMemory }
     {
-        self.note_consts(lower, scope, block.consts.as_slice())?;
-        self.note_types(lower, scope, block.types.as_slice())?;
-        self.note_vars(lower, scope, block.vars.as_slice())?;
-        self.note_routines(lower, scope, block.routines.as_slice())?;
+        self.note_consts(lower, declared, block.consts.as_slice())?;
+        self.note_types(lower, declared, block.types.as_slice())?;
+        self.note_vars(lower, declared, block.vars.as_slice())?;
+        self.note_routines(lower, declared, block.routines.as_slice())?;
         Ok(())
     }
 
     fn note_consts(
         &self,
         lower: &mut Vec<u8>,
-        scope: &mut Scope,
+        declared: &mut Names,
         decls: &[ConstDecl],
     ) -> Result<(), Fault>
-        ensures names { OnOk result (scope.new.names ≡ noted_all self.now.text.now (map const_name decls.now) scope.old.names) }
+        ensures names { OnOk result (declared.new ≡ noted_all self.now.text.now (map const_name decls.now) declared.old) }
         ensures memory { IfErr result IsMemory }
     {
         for decl in decls {
-            self.note(lower, scope, decl.name)?;
+            self.note(lower, declared, decl.name)?;
         }
         Ok(())
     }
@@ -272,14 +296,14 @@ impl<'t> Seen<'t> {
     fn note_types(
         &self,
         lower: &mut Vec<u8>,
-        scope: &mut Scope,
+        declared: &mut Names,
         decls: &[TypeDecl],
     ) -> Result<(), Fault>
-        ensures names { OnOk result (scope.new.names ≡ noted_all self.now.text.now (map type_name decls.now) scope.old.names) }
+        ensures names { OnOk result (declared.new ≡ noted_all self.now.text.now (map type_name decls.now) declared.old) }
         ensures memory { IfErr result IsMemory }
     {
         for decl in decls {
-            self.note(lower, scope, decl.name)?;
+            self.note(lower, declared, decl.name)?;
         }
         Ok(())
     }
@@ -287,14 +311,14 @@ impl<'t> Seen<'t> {
     fn note_vars(
         &self,
         lower: &mut Vec<u8>,
-        scope: &mut Scope,
+        declared: &mut Names,
         decls: &[VarDecl],
     ) -> Result<(), Fault>
-        ensures names { OnOk result (scope.new.names ≡ noted_all self.now.text.now (flat_map var_names decls.now) scope.old.names) }
+        ensures names { OnOk result (declared.new ≡ noted_all self.now.text.now (flat_map var_names decls.now) declared.old) }
         ensures memory { IfErr result IsMemory }
     {
         for decl in decls {
-            self.note_names(lower, scope, decl.names.as_slice())?;
+            self.note_names(lower, declared, decl.names.as_slice())?;
         }
         Ok(())
     }
@@ -302,14 +326,14 @@ impl<'t> Seen<'t> {
     fn note_routines(
         &self,
         lower: &mut Vec<u8>,
-        scope: &mut Scope,
+        declared: &mut Names,
         routines: &[Routine],
     ) -> Result<(), Fault>
-        ensures names { OnOk result (scope.new.names ≡ noted_all self.now.text.now (map routine_name routines.now) scope.old.names) }
+        ensures names { OnOk result (declared.new ≡ noted_all self.now.text.now (map routine_name routines.now) declared.old) }
         ensures memory { IfErr result IsMemory }
     {
         for routine in routines {
-            self.note(lower, scope, routine.name)?;
+            self.note(lower, declared, routine.name)?;
         }
         Ok(())
     }
@@ -318,14 +342,14 @@ impl<'t> Seen<'t> {
     pub fn note_formals(
         &self,
         lower: &mut Vec<u8>,
-        scope: &mut Scope,
+        declared: &mut Names,
         sections: &[Section],
     ) -> Result<(), Fault>
-        ensures names { OnOk result (scope.new.names ≡ noted_all self.now.text.now (flat_map section_names sections.now) scope.old.names) }
+        ensures names { OnOk result (declared.new ≡ noted_all self.now.text.now (flat_map section_names sections.now) declared.old) }
         ensures memory { IfErr result IsMemory }
     {
         for section in sections {
-            self.note_names(lower, scope, section.names.as_slice())?;
+            self.note_names(lower, declared, section.names.as_slice())?;
         }
         Ok(())
     }
@@ -333,24 +357,24 @@ impl<'t> Seen<'t> {
     fn note_names(
         &self,
         lower: &mut Vec<u8>,
-        scope: &mut Scope,
+        declared: &mut Names,
         names: &[Span],
     ) -> Result<(), Fault>
-        ensures names { OnOk result (scope.new.names ≡ noted_all self.now.text.now names.now scope.old.names) }
+        ensures names { OnOk result (declared.new ≡ noted_all self.now.text.now names.now declared.old) }
         ensures memory { IfErr result IsMemory }
     {
         for name in names {
-            self.note(lower, scope, *name)?;
+            self.note(lower, declared, *name)?;
         }
         Ok(())
     }
 
-    fn note(&self, lower: &mut Vec<u8>, scope: &mut Scope, name: Span) -> Result<(), Fault>
-        ensures names { OnOk result (scope.new.names ≡ noted (name_at self.now.text.now name) name.start scope.old.names) }
+    fn note(&self, lower: &mut Vec<u8>, declared: &mut Names, name: Span) -> Result<(), Fault>
+        ensures names { OnOk result (declared.new ≡ noted (name_at self.now.text.now name) name.start declared.old) }
         ensures memory { IfErr result IsMemory }
     {
         lower_case(spelling(self.text, name), lower).map_err(Fault::Memory)?;
-        match scope.names.note(self.alloc, lower.as_slice(), name.start) {
+        match declared.note(self.alloc, lower.as_slice(), name.start) {
             Ok(()) => Ok(()),
             Err(error) => Err(Fault::Memory(error)),
         }

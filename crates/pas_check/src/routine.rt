@@ -1,8 +1,8 @@
 //! Procedures and functions with their blocks (ISO 7185, 6.6.1 and 6.6.2).
 
-ghost use Rattle.std.specs.Prelude.{◌≡◌, Ok, map, reverse, slice_get};
+ghost use Rattle.std.specs.Prelude.{◌≡◌, ℕ, map, reverse, slice_get};
 ghost use Rattle.std.specs.Option.{option_copied, option_map};
-ghost use Rattle.pas_check.specs.Blocks.{ForwardMay, OpenMay, RoutineMay, RoutinesMay, later_of, planned, standing, waiting_of};
+ghost use Rattle.pas_check.specs.Blocks.{RoutineMay, RoutinesMay, Standing, forward_read, opened_by, plan_of, planned, planned_of, planned_with, standing, waiting_of, waits_for};
 ghost use Rattle.pas_check.specs.Expr as spec;
 ghost use Rattle.pas_check.specs.Expr.{call_shown, callee_at, formals_at, result_inside};
 ghost use Rattle.pas_check.specs.Outcome.{Gives, Meets};
@@ -99,8 +99,8 @@ impl<'t> Checker<'t> {
         plans: &mut Vec<Plan<'_>>,
         waiting: &mut Waiting,
     ) -> Result<(), Fault>
-        ensures value { map later_of (reverse plans.old.items) ≡ map (λ p. p.1) (planned (sight self.old.seen).text routines.now)
-            → Meets (λ u. standing (stage self.new) (waiting_of waiting.new)) (RoutinesMay (standing (stage self.old) (waiting_of waiting.old)) (planned (sight self.old.seen).text routines.now)) result }
+        ensures value { (before : ℕ) → map plan_of (reverse plans.old.items) ≡ map planned_of (planned (sight self.old.seen).text before routines.now)
+            → Meets (λ u. standing (stage self.new) (waiting_of waiting.new)) (RoutinesMay (standing (stage self.old) (waiting_of waiting.old)) (planned (sight self.old.seen).text before routines.now)) result }
     {
         for routine in routines {
             let Some(plan) = plans.pop() else {
@@ -119,7 +119,7 @@ impl<'t> Checker<'t> {
         plan: Plan<'_>,
         waiting: &mut Waiting,
     ) -> Result<(), Fault>
-        ensures value { Meets (λ u. standing (stage self.new) (waiting_of waiting.new)) (RoutineMay (standing (stage self.old) (waiting_of waiting.old)) routine.now (option_copied plan.entry.later)) result }
+        ensures value { Meets (λ u. standing (stage self.new) (waiting_of waiting.new)) (RoutineMay (standing (stage self.old) (waiting_of waiting.old)) (planned_with routine.now plan.entry)) result }
     {
         match &routine.body {
             RoutineBody::Word(word) => self.forward(routine, *word, plan, waiting),
@@ -131,6 +131,7 @@ impl<'t> Checker<'t> {
     }
 
     /// A heading with a word in the place of its block, which must be `forward`.
+    #[tactic(auto, unfolding(crate::specs::Blocks::forward_read))]
     fn forward(
         &mut self,
         routine: &Routine,
@@ -138,7 +139,7 @@ impl<'t> Checker<'t> {
         plan: Plan<'_>,
         waiting: &mut Waiting,
     ) -> Result<(), Fault>
-        ensures value { Meets (λ u. standing (stage self.new) (waiting_of waiting.new)) (ForwardMay (standing (stage self.old) (waiting_of waiting.old)) routine.now word plan.number (option_copied plan.entry.later)) result }
+        ensures value { Gives (λ u. standing (stage self.new) (waiting_of waiting.new)) (forward_read (standing (stage self.old) (waiting_of waiting.old)) (planned_with routine.now plan.entry) word) result }
     {
         let opened = self.heading(routine, plan.number, plan.later)?;
         if !self.seen.spelling(word).eq_ignore_ascii_case(b"forward") {
@@ -159,7 +160,7 @@ impl<'t> Checker<'t> {
         number: u32,
         waiting: &mut Waiting,
     ) -> Result<Opened, Fault>
-        ensures value { Meets (λ o. (standing (stage self.new) (waiting_of waiting.new), o)) (OpenMay (standing (stage self.old) (waiting_of waiting.old)) routine.now block.now number) result }
+        ensures value { (s : Standing) → s ≡ standing (stage self.old) (waiting_of waiting.old) → Gives (λ o. (standing (stage self.new) (waiting_of waiting.new), o)) (opened_by s routine.now block.now number (waits_for s routine.now)) result }
     {
         self.made.spell(self.seen.text, routine.name)?;
         match waiting.take(self.made.lower.as_slice(), routine.function) {

@@ -3,7 +3,7 @@ ghost use Rattle.std.specs.Option.{option_copied};
 ghost use Rattle.pas_program.specs.Tables.{holds_of};
 ghost use Rattle.pas_check.specs.Declarations.{in_innermost};
 ghost use Rattle.pas_check.specs.Expr as expr;
-ghost use Rattle.pas_check.specs.Labels.{first_scope, labelled};
+ghost use Rattle.pas_check.specs.Labels.{first_scope, labelled, unlabelled};
 ghost use Rattle.pas_check.specs.Names as spec;
 ghost use Rattle.pas_check.specs.Names.{ended, found_in, noted, with_meaning};
 ghost use Rattle.pas_check.specs.Sight.{names_around};
@@ -111,13 +111,15 @@ pub struct Scope {
 }
 
 impl Scope {
-    pub fn new(alloc: Global, routine: u32) -> Scope
-        ensures names { result.names ≡ [] }
+    /// A block with these names and without labels, which is no function's.
+    pub fn new(alloc: Global, routine: u32, names: Names) -> Scope
+        ensures names { result.names ≡ names }
+        ensures labels { labelled result ≡ unlabelled routine }
     {
         Scope {
             routine,
             function: None,
-            names: Names::new(alloc),
+            names,
             labels: IndexMap::new(alloc),
         }
     }
