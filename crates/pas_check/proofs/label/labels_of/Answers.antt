@@ -1,15 +1,14 @@
 use Rattle.std.proofs.Common.{List, rules, subst, true}
 use Rattle.pas_tree.specs.declared.statement.Statement.{Statement}
-use Rattle.pas_check.specs.Blocks.{LabelsMay}
-use Rattle.pas_check.specs.Labels.{Labels}
-use Rattle.pas_check.specs.Placing.{Notes, sequence_marks}
-use Rattle.pas_check.proofs.Declarations.{meets_wrong}
+use Rattle.pas_check.specs.Labels.{Kept}
+use Rattle.pas_check.specs.Placing.{Notes, labels_read, sequence_marks}
 use Rattle.pas_check.proofs.Labels.{labels_are, part_fails}
+use Rattle.pas_check.proofs.Passing.{gives_wrong}
 use Rattle.pas_check.proofs.label.labels_of.Goals as goal
 
 pub returns-in_err-declare_labels : goal.returns-in_err-declare_labels
 returns-in_err-declare_labels c = record {
-  value = meets_wrong {B = Labels} _ (LabelsMay c.args.block.now) c.from_residual.result c.in_err-declare_labels.field-0.0 (search rules) (λ own.
+  value = gives_wrong {B = Kept} _ (labels_read c.args.block.now) c.from_residual.result c.in_err-declare_labels.field-0.0 (search rules) (λ own.
       part_fails c.args.block.now c.as_slice.result.now c.as_slice.ensures c.new-labels.result c.new-labels.ensures.empty c.in_err-declare_labels.field-0.0 (c.in_err-declare_labels.ensures.value own));
 }
 
