@@ -6,6 +6,7 @@ pub mod Declared
 pub mod Formals
 pub mod Found
 pub mod Headings
+pub mod InOrder
 pub mod Labels
 pub mod Loops
 pub mod Meanings
@@ -17,6 +18,7 @@ pub mod ReachingLaw
 pub mod ReachingMarks
 pub mod ReachingNotes
 pub mod Routines
+pub mod StatementForms
 pub mod Statements
 pub mod Turns
 pub mod Writes

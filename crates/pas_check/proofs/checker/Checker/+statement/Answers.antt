@@ -4,6 +4,7 @@ use Rattle.pas_check.specs.Sight.{sight}
 use Rattle.pas_check.specs.Statements.{arms_in_turn, stated_arm}
 use Rattle.pas_check.specs.Writes.{Writing, arm_writes}
 use Rattle.pas_check.proofs.Passing.{gives_wrong}
+use Rattle.pas_check.proofs.StatementForms.{statement_form_is}
 use Rattle.pas_check.proofs.Statements.{arm_fails, arm_goes, asserts_fail, body_is, consts_fail, head_free, label_fails}
 use Rattle.pas_check.proofs.Writes.{arm_writes_are, statement_writes_are, turn_goes}
 use Rattle.pas_check.proofs.checker.Checker.+statement.Goals as goal
@@ -29,6 +30,10 @@ statement-returns-clause-value t c =
 pub statement-returns-clause-writes : goal.statement-returns-clause-writes
 statement-returns-clause-writes t c =
     statement_writes_are c.args.statement.now (sight c.args.self.now.seen) _ c.as_slice.result.now _ _ _ c.as_slice.ensures c.in_ok-asserts.ensures.writes c.in_ok-asserts.ensures.kept c.in_ok-body.ensures.writes
+
+pub statement-returns-clause-form : goal.statement-returns-clause-form
+statement-returns-clause-form t c =
+    statement_form_is c.args.statement.now (sight c.args.self.now.seen) _ _ _ _ c.as_slice.result.now _ _ _ c.as_slice.ensures c.in_ok-label.ensures.form c.in_ok-asserts.ensures.form c.in_ok-asserts.ensures.kept c.in_ok-body.ensures.form
 
 pub body-returns-in_ok-head-in-For-clause-kept : goal.body-returns-in_ok-head-in-For-clause-kept
 body-returns-in_ok-head-in-For-clause-kept t c = c.for_statement.ensures.kept (head_free (sight c.args.self.now.seen) _ _ _ _ c.in_ok-head-in-For.ensures.value)
