@@ -1,22 +1,28 @@
 -- What statements are in the program, one level at a time.
-use Rattle.std.proofs.Common.{◌≡◌, ℕ, ℤ, true, List, Option, Some, refl, sym, ap, ◌∙◌}
+use Rattle.std.proofs.Common.{◌≡◌, ℕ, ℤ, Bool, true, List, map, Option, Some, sym, ap, ◌∙◌}
 use Rattle.std.specs.Option.{option_map}
+use Rattle.px_base.specs.declared.place.Span.{Span}
 use Rattle.pas_program.specs.declared.expr.Expr.{Expr}
 use Rattle.pas_program.specs.declared.statement.Arm.{Arm}
 use Rattle.pas_program.specs.declared.statement.Body.{Body}
+use Rattle.pas_program.specs.declared.statement.Body.TheVariants as body
 use Rattle.pas_program.specs.declared.statement.Body.TheViews.{roll-Arm, roll-Statement}
 use Rattle.pas_program.specs.declared.statement.Statement as program
 use Rattle.pas_tree.specs.declared.constant.Constant.{Constant}
+use Rattle.pas_tree.specs.declared.expr.Expr as tree_expr
 use Rattle.pas_tree.specs.declared.statement.Assertion.{Assertion}
-use Rattle.pas_tree.specs.declared.statement.Body.TheFolds.{fold_out-Element, fold_out-Statement}
+use Rattle.pas_tree.specs.declared.statement.Body as tree_body
+use Rattle.pas_tree.specs.declared.statement.Body.TheFolds.{fold-roll-Body, fold_out-Element, fold_out-Statement}
+use Rattle.pas_tree.specs.declared.statement.Body.TheOpen.{Body-F}
+use Rattle.pas_tree.specs.declared.statement.Body.TheVariants as tree
 use Rattle.pas_tree.specs.declared.statement.Body.TheViews.{out-Element, out-Statement}
 use Rattle.pas_tree.specs.declared.statement.Element.{Element}
 use Rattle.pas_tree.specs.declared.statement.Statement.{Statement}
 use Rattle.pas_check.specs.declared.built.Built.{Built}
 use Rattle.pas_check.specs.Built.{◌>>=◌, in_order}
-use Rattle.pas_check.specs.Forms.{expr_form, operand_form}
+use Rattle.pas_check.specs.Forms.{expr_form, operand_form, scalar_form}
 use Rattle.pas_check.specs.Sight.{Sight}
-use Rattle.pas_check.specs.StatementForms.{ArmForm, BodyForm, StatementForm, arm_form, arm_step, assert_added, assert_form, body_form, body_step, constants_form, label_value, statement_form, statement_step}
+use Rattle.pas_check.specs.StatementForms.{ArmForm, BodyForm, StatementForm, arm_form, arm_step, arms_form, assert_added, assert_form, body_form, body_step, constants_form, label_value, statement_form, statement_step}
 
 -- ---- assertions
 
@@ -82,3 +88,25 @@ module _ (a : Element) (v : Sight) where
       ∙ ap (λ (t : Sight). armed consts (statement_form (out-Element a).body t b)) (sym kept)
       ∙ ap (λ c. armed consts (statement_form (out-Element a).body u c)) (sym built)
       ∙ ap (armed consts) goes
+
+-- ---- `case`
+
+module _ (selector : tree_expr.Expr) (arms : List Element) (at : Span) (v : Sight) where
+  chosen : Option (Expr × Built) → Option (Body × Built)
+  chosen o = o >>= (λ x. arms_form (map arm_form arms) v x.1 >>= (λ xs. Some (body.Case x.0 xs.0, xs.1)))
+
+  with_arms : Expr → Option (List Arm × Built) → Option (Body × Built)
+  with_arms x o = o >>= (λ xs. Some (body.Case x xs.0, xs.1))
+
+  case_form_by : (b : Built) → body_form (tree.Case selector arms) at v b ≡ chosen (operand_form (expr_form v selector) b)
+  unfolding chosen statement_form body_form arm_form
+  case_form_by b = ap (λ (t : BodyForm). t at v b) (ap body_form (sym (tree.rolls-Case selector arms)) ∙ fold-roll-Body BodyForm ArmForm StatementForm body_step arm_step statement_step (Body-F.Case selector arms))
+
+  pub case_form_is : (s : tree_body.Body) (b between after : Built) (x : Expr × Bool) (xs : List Element) (list : List Arm) → s ≡ tree.Case selector arms → xs ≡ arms
+      → scalar_form (expr_form v selector) b ≡ Some (x, between) → arms_form (map arm_form xs) v between ≡ Some (list, after) → body_form s at v b ≡ Some (body.Case x.0 list, after)
+  unfolding chosen with_arms operand_form
+  case_form_is s b between after x xs list so same is goes =
+      ap (λ t. body_form t at v b) so ∙ case_form_by b
+      ∙ ap (λ (o : Option ((Expr × Bool) × Built)). chosen (o >>= (λ y. Some (y.0.0, y.1)))) is
+      ∙ ap (λ ys. with_arms x.0 (arms_form (map arm_form ys) v between)) (sym same)
+      ∙ ap (with_arms x.0) goes
