@@ -69,6 +69,6 @@ arms-loop-arm-preserved t c =
           c.loop-arm.invariant.kept c.loop-arm-test.true c.arm-item.is c.loop-arm.invariant.rest c.as_slice.ensures _ c.in_ok-consts.ensures.value c.in_ok-body.ensures.value;
       writes = turn_goes (λ (s : Writing). s v) arm_writes c.args.arms.now c.loop-arm.arm-index c.arm-item.result _ _ _ c.loop-arm-test.true c.arm-item.is c.loop-arm.invariant.writes
           (arm_writes_are c.arm-item.result v (sight c.loop-arm.self.seen) _ _ _ c.loop-arm.invariant.kept c.in_ok-consts.ensures.writes c.in_ok-body.ensures.writes);
-      form = rw pushed (shown_goes (λ (a : ArmForm). a v) arm_form _ c.loop-arm.list c.args.arms.now c.loop-arm.arm-index c.arm-item.result _ _ _ c.loop-arm.invariant.form c.loop-arm-test.true c.arm-item.is
-          (arm_form_is c.arm-item.result v _ _ _ (sight c.loop-arm.self.seen) c.as_slice.result.now _ _ c.as_slice.ensures c.loop-arm.invariant.kept c.in_ok-consts.ensures.kept c.in_ok-consts.ensures.form c.in_ok-body.ensures.form));
+      form = shown_goes (λ (a : ArmForm). a v) arm_form _ c.loop-arm.list c.args.arms.now c.loop-arm.arm-index c.arm-item.result _ _ _ _ c.loop-arm.invariant.form c.loop-arm-test.true c.arm-item.is
+          (arm_form_is c.arm-item.result v _ _ _ (sight c.loop-arm.self.seen) c.as_slice.result.now _ _ c.as_slice.ensures c.loop-arm.invariant.kept c.in_ok-consts.ensures.kept c.in_ok-consts.ensures.form c.in_ok-body.ensures.form) pushed;
     }

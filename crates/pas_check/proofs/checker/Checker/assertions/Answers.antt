@@ -14,6 +14,6 @@ loop-assertion-preserved c =
       kept = search rules;
       rest = grind (arith, common_steps);
       writes = grind (arith, common_steps);
-      form = rw pushed (order_goes (assert_form v) _ c.loop-assertion.numbers c.args.assertions.now c.loop-assertion.assertion-index c.assertion-item.result _ _ _ c.loop-assertion.invariant.form c.loop-assertion-test.true c.assertion-item.is
-          (assert_form_is c.assertion-item.result v _ _ _ _ _ _ c.loop-assertion.invariant.kept c.in_ok-cond.ensures.form c.in_ok-number.ensures.form));
+      form = order_goes (assert_form v) _ c.loop-assertion.numbers c.args.assertions.now c.loop-assertion.assertion-index c.assertion-item.result _ _ _ _ c.loop-assertion.invariant.form c.loop-assertion-test.true c.assertion-item.is
+          (assert_form_is c.assertion-item.result v _ _ _ _ _ _ c.loop-assertion.invariant.kept c.in_ok-cond.ensures.form c.in_ok-number.ensures.form) pushed;
     }
