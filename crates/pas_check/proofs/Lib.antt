@@ -7,6 +7,7 @@ pub mod Formals
 pub mod Forms
 pub mod Found
 pub mod Headings
+pub mod InOrder
 pub mod Labels
 pub mod Loops
 pub mod Meanings
@@ -18,6 +19,7 @@ pub mod ReachingLaw
 pub mod ReachingMarks
 pub mod ReachingNotes
 pub mod Routines
+pub mod StatementForms
 pub mod Statements
 pub mod Turns
 pub mod Writes
