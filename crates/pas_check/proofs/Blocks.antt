@@ -1,22 +1,25 @@
 -- Blocks, from their beginning to their end.
-use Rattle.std.proofs.Common.{◌≡◌, ℕ, List, length, Option, None, Some, Ok, Err, sym, ap, subst, ◌∙◌}
+use Rattle.std.proofs.Common.{◌≡◌, ℕ, false, List, [], length, Option, None, Some, Ok, Err, sym, ap, subst, ◌∙◌}
 use Rattle.std.specs.Prelude.{IfErr, OnOk}
 use Rattle.pas_tree.specs.declared.block.Block.{Block}
 use Rattle.pas_tree.specs.declared.block.Routine.{Routine}
 use Rattle.pas_tree.specs.declared.block.RoutineBody.TheViews.{out-Block}
+use Rattle.pas_tree.specs.declared.block.Tree.{Tree}
 use Rattle.pas_tree.specs.declared.statement.Statement.{Statement}
 use Rattle.pas_program.specs.declared.statement.Statement as statement
 use Rattle.pas_check.specs.declared.block.Outer.{Outer}
 use Rattle.pas_check.specs.declared.built.Built.{Built}
 use Rattle.pas_check.specs.declared.fault.Fault.{Fault}
 use Rattle.pas_check.specs.declared.fault.Fault.TheVariants.{Broken, Memory}
+use Rattle.pas_check.specs.declared.frame.Frame.{Frame}
 use Rattle.pas_check.specs.declared.heading.Function.{Function}
 use Rattle.pas_check.specs.declared.heading.Opened.{Opened}
-use Rattle.pas_check.specs.Blocks.{BeginsMay, BlockMay, EndMay, LabelsMay, RoutinesMay, Standing, block_built, block_ended, end_allowed, ends, entered, in_parts, in_routines, left, not_ended, nothing_waits, outer_of, own_block, parts, planned, standing, statement_of, statements_ended, to_end}
-use Rattle.pas_check.specs.Built.{with_routine}
+use Rattle.pas_check.specs.Block.{names_in}
+use Rattle.pas_check.specs.Blocks.{BeginsMay, BlockMay, EndMay, LabelsMay, RoutinesMay, Standing, block_built, block_ended, end_allowed, ends, entered, in_parts, in_routines, left, not_ended, nothing_waits, outer_of, own_block, parts, planned, program_frame, program_opened, standing, statement_of, statements_ended, to_end}
+use Rattle.pas_check.specs.Built.{frame_of, with_routine}
 use Rattle.pas_check.specs.Headings.{outside}
 use Rattle.pas_check.specs.Labels.{Labels}
-use Rattle.pas_check.specs.Names.{Name}
+use Rattle.pas_check.specs.Names.{Name, Names, noted_all}
 use Rattle.pas_check.specs.Outcome.{IsMemory, Meets, Outcome, ◌>>=◌}
 use Rattle.pas_check.specs.Sight.{Sight}
 use Rattle.pas_check.specs.Stage.{Stage}
@@ -48,6 +51,13 @@ module _ (s u : Stage) (p : Opened) (b : Block) (begins : BeginsMay s p b (Ok u)
 
   pub block_to_end : (t : Standing) (o : Outcome Stage) → RoutinesMay (standing u waiting) (planned u.seen.text routines) (Ok t) → EndMay s p b u.seen.text t.at o → BlockMay s p b o
   block_to_end t o now after = to_end begins (at_first (Ok t) now) after
+
+-- the block of a program
+pub program_may : (s : Stage) (tree : Tree) (number : ℕ) (frame : Frame) (formals : List ℕ) (names : Names) (o : Outcome Stage) → formals ≡ [] → frame ≡ frame_of tree.name number None 0 formals None → names ≡ noted_all s.seen.text (names_in tree.block) []
+    → BlockMay s (record { frame = frame; function = false; names = names; result = None }) tree.block o → BlockMay s (program_opened s.seen.text tree (program_frame tree number)) tree.block o
+program_may s tree number frame formals names o none at_frame own now =
+    subst (λ (ns : Names). BlockMay s (record { frame = program_frame tree number; function = false; names = ns; result = None }) tree.block o) own
+    (subst (λ (f : Frame). BlockMay s (record { frame = f; function = false; names = names; result = None }) tree.block o) (at_frame ∙ ap (λ (fs : List ℕ). frame_of tree.name number None 0 fs None) none) now)
 
 -- ---- the end of a block
 

@@ -17,7 +17,7 @@ block-returns-in_err-outer t c = record {
 pub block-returns-in_err-routine_part : goal.block-returns-in_err-routine_part
 block-returns-in_err-routine_part t c = record {
   value = meets_wrong {B = Stage} _ (BlockMay (stage c.args.self.now) c.args.opened c.args.block.now) c.from_residual-in_err-routine_part.result c.in_err-routine_part.field-0.0 (search rules) (λ own.
-      block_in_routines (stage c.args.self.now) (stage c.begin.new.self) c.args.opened c.args.block.now c.in_ok-outer.ensures.value c.as_slice.result.now c.as_slice.ensures (waiting_of c.new-waiting.result) c.new-waiting.ensures c.in_err-routine_part.field-0.0 (c.in_err-routine_part.ensures.value (plans_theirs c.begin.new.self.seen c.as_slice.result.now c.in_ok-plans.plans.list.items c.in_ok-plans.ensures.later) own));
+      block_in_routines (stage c.args.self.now) (stage c.begin.new.self) c.args.opened c.args.block.now c.in_ok-outer.ensures.value c.as_slice-routines.result.now c.as_slice-routines.ensures (waiting_of c.new-waiting.result) c.new-waiting.ensures c.in_err-routine_part.field-0.0 (c.in_err-routine_part.ensures.value (plans_theirs c.begin.new.self.seen c.as_slice-routines.result.now c.in_ok-plans.plans.list.items c.in_ok-plans.ensures.later) own));
 }
 
 pub block-returns : goal.block-returns
@@ -26,8 +26,8 @@ block-returns t c =
     let text = (sight c.begin.new.self.seen).text in
     let t = standing (stage c.routine_part.new.self) (waiting_of c.routine_part.new.waiting) in record {
       value = meets_all _ (EndMay s c.args.opened c.args.block.now text t.at) (BlockMay s c.args.opened c.args.block.now) c.end.result
-          (λ o is. block_to_end s (stage c.begin.new.self) c.args.opened c.args.block.now c.in_ok-outer.ensures.value c.as_slice.result.now c.as_slice.ensures (waiting_of c.new-waiting.result) c.new-waiting.ensures t o (c.in_ok-routine_part.ensures.value (plans_theirs c.begin.new.self.seen c.as_slice.result.now c.in_ok-plans.plans.list.items c.in_ok-plans.ensures.later)) is)
-          (c.end.ensures.value s c.args.opened text c.in_ok-outer.ensures.outer refl (lacking_theirs c.begin.new.self.seen c.as_slice.result.now (out-Block c.args.block.now).routines c.as_slice.ensures c.in_ok-plans.plans.lacking c.in_ok-plans.ensures.lacking));
+          (λ o is. block_to_end s (stage c.begin.new.self) c.args.opened c.args.block.now c.in_ok-outer.ensures.value c.as_slice-routines.result.now c.as_slice-routines.ensures (waiting_of c.new-waiting.result) c.new-waiting.ensures t o (c.in_ok-routine_part.ensures.value (plans_theirs c.begin.new.self.seen c.as_slice-routines.result.now c.in_ok-plans.plans.list.items c.in_ok-plans.ensures.later)) is)
+          (c.end.ensures.value s c.args.opened text c.in_ok-outer.ensures.outer refl (lacking_theirs c.begin.new.self.seen c.as_slice-routines.result.now (out-Block c.args.block.now).routines c.as_slice-routines.ensures c.in_ok-plans.plans.lacking c.in_ok-plans.ensures.lacking));
     }
 
 pub routine-returns-in_err-opened-in-Block : goal.routine-returns-in_err-opened-in-Block
