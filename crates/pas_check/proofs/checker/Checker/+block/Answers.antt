@@ -1,7 +1,7 @@
-use Rattle.std.proofs.Common.{Err, Ok, arith, refl, rules, sym, ◌∙◌}
+use Rattle.std.proofs.Common.{Err, Ok, arith, refl, rules}
 use Rattle.std.specs.Option.{option_copied}
 use Rattle.pas_tree.specs.declared.block.RoutineBody.TheViews.{out-Block}
-use Rattle.pas_check.specs.Blocks.{BlockMay, ForwardMay, RoutineMay, RoutinesMay, Standing, EndMay, in_block, is_word, not_begun, not_opened, planned, standing, waiting_of, whole_block}
+use Rattle.pas_check.specs.Blocks.{BlockMay, EndMay, ForwardMay, RoutineMay, RoutinesMay, Standing, in_block, is_word, not_begun, not_opened, planned, standing, waiting_of, whole_block}
 use Rattle.pas_check.specs.Sight.{sight}
 use Rattle.pas_check.specs.Stage.{Stage, stage}
 use Rattle.pas_check.proofs.Blocks.{block_in_routines, block_to_end, meets_all, meets_by}
@@ -24,9 +24,9 @@ pub block-returns : goal.block-returns
 block-returns t c =
     let s = stage c.args.self.now in
     let text = (sight c.begin.new.self.seen).text in
-    let t = standing (stage c.routine_part.new.self) (waiting_of c.routine_part.new.waiting) in record {
-      value = meets_all _ (EndMay s c.args.opened c.args.block.now text t.at) (BlockMay s c.args.opened c.args.block.now) c.end.result
-          (λ o is. block_to_end s (stage c.begin.new.self) c.args.opened c.args.block.now c.in_ok-outer.ensures.value c.as_slice-routines.result.now c.as_slice-routines.ensures (waiting_of c.new-waiting.result) c.new-waiting.ensures t o (c.in_ok-routine_part.ensures.value (plans_theirs c.begin.new.self.seen c.as_slice-routines.result.now c.in_ok-plans.plans.list.items c.in_ok-plans.ensures.later)) is)
+    let end = standing (stage c.routine_part.new.self) (waiting_of c.routine_part.new.waiting) in record {
+      value = meets_all _ (EndMay s c.args.opened c.args.block.now text end.at) (BlockMay s c.args.opened c.args.block.now) c.end.result
+          (λ o is. block_to_end s (stage c.begin.new.self) c.args.opened c.args.block.now c.in_ok-outer.ensures.value c.as_slice-routines.result.now c.as_slice-routines.ensures (waiting_of c.new-waiting.result) c.new-waiting.ensures end o (c.in_ok-routine_part.ensures.value (plans_theirs c.begin.new.self.seen c.as_slice-routines.result.now c.in_ok-plans.plans.list.items c.in_ok-plans.ensures.later)) is)
           (c.end.ensures.value s c.args.opened text c.in_ok-outer.ensures.outer refl (lacking_theirs c.begin.new.self.seen c.as_slice-routines.result.now (out-Block c.args.block.now).routines c.as_slice-routines.ensures c.in_ok-plans.plans.lacking c.in_ok-plans.ensures.lacking));
     }
 
