@@ -1,6 +1,7 @@
 -- Headings with their blocks, one after the other.
-use Rattle.std.proofs.Common.{◌≡◌, ℕ, ◌+◌, ◌<◌, ◌≤◌, ◌↔◌, Bool, true, false, List, [], ◌∷◌, ◌++◌, length, arith, get_or, drop, map, reverse, codes, Option, Some, None, Ok, Err, refl, sym, ap, subst, ◌∙◌}
+use Rattle.std.proofs.Common.{◌≡◌, ℕ, ◌+◌, ◌<◌, ◌≤◌, ◌↔◌, Bool, true, false, cond, List, [], ◌∷◌, ◌++◌, length, arith, get_or, drop, map, reverse, codes, Option, Some, None, Ok, Err, Vec, Global, refl, sym, ap, subst, ◌∙◌}
 use Rattle.std.specs.Prelude.{not}
+use Rattle.std.specs.Map.{KeepsOthers, lookup}
 use Rattle.std.specs.Str.{bytes_eq, str_to_ascii_lowercase}
 use Rattle.std.proofs.lemmas.Slice.Eq.{bytes_eq-Decides}
 use Rattle.px_base.specs.declared.place.Span.{Span}
@@ -15,13 +16,14 @@ use Rattle.pas_check.specs.declared.heading.Opened.{Opened}
 use Rattle.pas_check.specs.declared.plan.Plan.{Plan}
 use Rattle.pas_check.specs.declared.seen.Made.{Made}
 use Rattle.pas_check.specs.declared.seen.Seen.{Seen}
-use Rattle.pas_check.specs.Blocks.{OpenMay, RoutineMay, RoutinesMay, Standing, awaited, awaited_block, bodies_given, forwarded, goes_on, in_heading, is_forward, lacking_by, later_of, no_more, opened, planned, standing, stops_in, waits, waits_for, with_word}
+use Rattle.pas_check.specs.Blocks.{OpenMay, RoutineMay, RoutinesMay, Standing, awaited, awaited_block, bodies_given, forwarded, goes_on, in_heading, is_forward, lacking_by, later_of, no_more, opened, opening_for, planned, standing, stops_in, waits, waits_for, with_word}
 use Rattle.pas_check.specs.Headings.{HeadingMay}
 use Rattle.pas_check.specs.Names.{Name, name_at, spelling}
 use Rattle.pas_check.specs.Outcome.{Outcome, ◌>>=◌, unless}
 use Rattle.pas_check.specs.Routine.{repeated_heading}
 use Rattle.pas_check.specs.Sight.{Sight, sight}
 use Rattle.pas_check.specs.Stage.{Stage}
+use Rattle.pas_check.proofs.ByName.{changed_at}
 use Rattle.pas_check.proofs.Declarations.{last_is}
 use Rattle.pas_check.proofs.Passing.{drop_next}
 
@@ -71,6 +73,22 @@ module _ (c : Seen) (routines : List Routine) where
   pub lacking_theirs : (others : List Routine) → routines ≡ others → (lacking : Option ℕ) → lacking_by lacking ≡ bodies_given c.text.now routines → lacking_by lacking ≡ bodies_given (sight c).text others
   unfolding sight
   lacking_theirs others same lacking h = h ∙ ap (bodies_given c.text.now) same
+
+-- ---- headings that wait
+
+opening_found : (name : Name) (es : List (Vec ℕ Global × Opened)) → opening_for name es ≡ lookup (λ (k : Vec ℕ Global). bytes_eq name k.items) es
+opening_found name [] = refl
+opening_found name (e ∷ es) = ap (cond (bytes_eq name e.0.items) (Some e.1)) (opening_found name es)
+
+pub awaited_by : (function : Bool) (name : Name) (es : List (Vec ℕ Global × Opened)) (o : Option Opened) → o ≡ lookup (λ (k : Vec ℕ Global). bytes_eq name k.items) es → with_word function (opening_for name es) ≡ with_word function o
+awaited_by function name es o e = ap (with_word function) (opening_found name es ∙ sym e)
+
+pub waiting_after : (name : Name) (old new : List (Vec ℕ Global × Opened)) (w : Option Opened) → lookup (λ (k : Vec ℕ Global). bytes_eq name k.items) new ≡ w
+    → KeepsOthers (λ (x y : Vec ℕ Global). bytes_eq x.items y.items) (λ (k : Vec ℕ Global). bytes_eq name k.items) old new → (λ (n : Name). opening_for n new) ≡ waits (λ (n : Name). opening_for n old) name w
+waiting_after name old new w here others = λ i n. at_name n i
+  where
+    at_name : (n : Name) → opening_for n new ≡ cond (bytes_eq name n) w (opening_for n old)
+    at_name n = opening_found n new ∙ changed_at name old new w here others n ∙ ap (cond (bytes_eq name n) w) (sym (opening_found n old))
 
 -- ---- a heading with a word
 
