@@ -138,7 +138,7 @@ impl<'t> Checker<'t> {
         plan: Plan<'_>,
         waiting: &mut Waiting,
     ) -> Result<(), Fault>
-        ensures value { Meets (λ u. standing (stage self.new) (waiting_of waiting.new)) (ForwardMay (standing (stage self.old) (waiting_of waiting.old)) routine.now word plan.number (option_copied plan.entry.later)) result }
+        ensures value { Meets (λ u. standing (stage self.new) (waiting_of waiting.new)) (ForwardMay (standing (stage self.old) (waiting_of waiting.old)) routine.now word plan.entry.number (option_copied plan.entry.later)) result }
     {
         let opened = self.heading(routine, plan.number, plan.later)?;
         if !self.seen.spelling(word).eq_ignore_ascii_case(b"forward") {
