@@ -6,6 +6,7 @@ pub mod Declared
 pub mod Formals
 pub mod Found
 pub mod Headings
+pub mod InOrder
 pub mod Labels
 pub mod Loops
 pub mod Meanings

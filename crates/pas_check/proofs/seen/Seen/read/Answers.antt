@@ -1,9 +1,12 @@
 use Rattle.std.proofs.Common.{◌+◌, ap, ◌∙◌, drop, map, rules}
 use Rattle.pas_check.specs.Expr.{given}
+use Rattle.pas_check.specs.Forms.{given_form}
 use Rattle.pas_check.specs.Outcome.{◌>>=◌}
 use Rattle.pas_check.specs.Sight.{sight}
 use Rattle.pas_check.specs.Statement.{all_read}
+use Rattle.pas_check.specs.StatementForms.{read_form}
 use Rattle.pas_check.specs.Writes.{read_writes}
+use Rattle.pas_check.proofs.InOrder.{shown_goes}
 use Rattle.pas_check.proofs.Passing.{gives_wrong, read_next}
 use Rattle.pas_check.proofs.Writes.{turn_goes}
 use Rattle.pas_check.proofs.seen.Seen.read.Goals as goal
@@ -15,6 +18,7 @@ loop-actual-preserved c =
       rest = c.loop-actual.invariant.rest ∙ read_next v c.args.actuals.now c.loop-actual.actual-index c.actual-item.result c.loop-actual-test.true c.actual-item.is
           ∙ ap (λ o. o >>= (λ done. rest)) c.in_ok-access.ensures.value;
       writes = turn_goes (read_writes v) (given v) c.args.actuals.now c.loop-actual.actual-index c.actual-item.result _ _ _ c.loop-actual-test.true c.actual-item.is c.loop-actual.invariant.writes c.in_ok-access.ensures.writes;
+      form = shown_goes read_form (given_form v) _ _ c.args.actuals.now c.loop-actual.actual-index c.actual-item.result _ _ _ c.loop-actual.invariant.form c.loop-actual-test.true c.actual-item.is c.in_ok-access.ensures.form;
     }
 
 pub returns-in_err-access-clause-value : goal.returns-in_err-access-clause-value
