@@ -19,21 +19,22 @@ after_more ys y None = refl
 after_more ys y (Some p) = ap (λ zs. Some (zs, p.1)) (sym (append_assoc ys (y ∷ []) p.0))
 
 module _ {A B : Type 0} (form : A → Builds B) where
-  -- the part at hand is built
-  part_goes : (start : Option (List B × Built)) (ys : List B) (x : A) (rest : List A) (b : Built) (y : B) (c : Built) → start ≡ after ys (in_order form (x ∷ rest) b) → form x b ≡ Some (y, c)
-      → start ≡ after (ys ++ y ∷ []) (in_order form rest c)
-  part_goes start ys x rest b y c so is =
+  -- the part at hand is built, and there is one more
+  part_goes : (start : Option (List B × Built)) (ys : List B) (x : A) (rest : List A) (b : Built) (y : B) (c : Built) (more : List B) → more ≡ ys ++ y ∷ []
+      → start ≡ after ys (in_order form (x ∷ rest) b) → form x b ≡ Some (y, c) → start ≡ after more (in_order form rest c)
+  part_goes start ys x rest b y c more pushed so is =
       so ∙ ap (λ (o : Option (B × Built)). after ys (o >>= (λ z. in_order form rest z.1 >>= (λ zs. Some (z.0 ∷ zs.0, zs.1))))) is ∙ after_more ys y (in_order form rest c)
+      ∙ ap (λ zs. after zs (in_order form rest c)) (sym pushed)
 
   -- ---- of the elements of a list
 
   pub order_begins : (xs : List A) (b : Built) → in_order form xs b ≡ after [] (in_order form (drop 0 xs) b)
   order_begins xs b = after_nothing (in_order form xs b)
 
-  pub order_goes : (start : Option (List B × Built)) (ys : List B) (xs : List A) (k : ℕ) (x : A) (b : Built) (y : B) (c : Built) → start ≡ after ys (in_order form (drop k xs) b)
-      → k < length xs → x ≡ get_or xs k x → form x b ≡ Some (y, c) → start ≡ after (ys ++ y ∷ []) (in_order form (drop (k + 1) xs) c)
-  order_goes start ys xs k x b y c so h e is =
-      part_goes start ys x (drop (k + 1) xs) b y c (so ∙ ap (λ zs. after ys (in_order form zs b)) (drop_next xs k x h e)) is
+  pub order_goes : (start : Option (List B × Built)) (ys : List B) (xs : List A) (k : ℕ) (x : A) (b : Built) (y : B) (c : Built) (more : List B) → start ≡ after ys (in_order form (drop k xs) b)
+      → k < length xs → x ≡ get_or xs k x → form x b ≡ Some (y, c) → more ≡ ys ++ y ∷ [] → start ≡ after more (in_order form (drop (k + 1) xs) c)
+  order_goes start ys xs k x b y c more so h e is pushed =
+      part_goes start ys x (drop (k + 1) xs) b y c more pushed (so ∙ ap (λ zs. after ys (in_order form zs b)) (drop_next xs k x h e)) is
 
   pub order_ends : (start : Option (List B × Built)) (ys : List B) (xs : List A) (k : ℕ) (b : Built) → start ≡ after ys (in_order form (drop k xs) b) → length xs ≤ k → start ≡ Some (ys, b)
   order_ends start ys xs k b so h = so ∙ ap (λ zs. after ys (in_order form zs b)) (drop_all k xs h) ∙ ap (λ zs. Some (zs, b)) (append-nil ys)
@@ -44,10 +45,10 @@ module _ {A B C : Type 0} (form : A → Builds B) (shown : C → A) where
   pub shown_begins : (xs : List C) (b : Built) → in_order form (map shown xs) b ≡ after [] (in_order form (map shown (drop 0 xs)) b)
   shown_begins xs b = after_nothing (in_order form (map shown xs) b)
 
-  pub shown_goes : (start : Option (List B × Built)) (ys : List B) (xs : List C) (k : ℕ) (x : C) (b : Built) (y : B) (c : Built) → start ≡ after ys (in_order form (map shown (drop k xs)) b)
-      → k < length xs → x ≡ get_or xs k x → form (shown x) b ≡ Some (y, c) → start ≡ after (ys ++ y ∷ []) (in_order form (map shown (drop (k + 1) xs)) c)
-  shown_goes start ys xs k x b y c so h e is =
-      part_goes form start ys (shown x) (map shown (drop (k + 1) xs)) b y c (so ∙ ap (λ zs. after ys (in_order form (map shown zs) b)) (drop_next xs k x h e)) is
+  pub shown_goes : (start : Option (List B × Built)) (ys : List B) (xs : List C) (k : ℕ) (x : C) (b : Built) (y : B) (c : Built) (more : List B) → start ≡ after ys (in_order form (map shown (drop k xs)) b)
+      → k < length xs → x ≡ get_or xs k x → form (shown x) b ≡ Some (y, c) → more ≡ ys ++ y ∷ [] → start ≡ after more (in_order form (map shown (drop (k + 1) xs)) c)
+  shown_goes start ys xs k x b y c more so h e is pushed =
+      part_goes form start ys (shown x) (map shown (drop (k + 1) xs)) b y c more pushed (so ∙ ap (λ zs. after ys (in_order form (map shown zs) b)) (drop_next xs k x h e)) is
 
   pub shown_ends : (start : Option (List B × Built)) (ys : List B) (xs : List C) (k : ℕ) (b : Built) → start ≡ after ys (in_order form (map shown (drop k xs)) b) → length xs ≤ k → start ≡ Some (ys, b)
   shown_ends start ys xs k b so h = so ∙ ap (λ zs. after ys (in_order form (map shown zs) b)) (drop_all k xs h) ∙ ap (λ zs. Some (zs, b)) (append-nil ys)

@@ -18,7 +18,7 @@ loop-actual-preserved c =
       rest = c.loop-actual.invariant.rest ∙ read_next v c.args.actuals.now c.loop-actual.actual-index c.actual-item.result c.loop-actual-test.true c.actual-item.is
           ∙ ap (λ o. o >>= (λ done. rest)) c.in_ok-access.ensures.value;
       writes = turn_goes (read_writes v) (given v) c.args.actuals.now c.loop-actual.actual-index c.actual-item.result _ _ _ c.loop-actual-test.true c.actual-item.is c.loop-actual.invariant.writes c.in_ok-access.ensures.writes;
-      form = shown_goes read_form (given_form v) _ _ c.args.actuals.now c.loop-actual.actual-index c.actual-item.result _ _ _ c.loop-actual.invariant.form c.loop-actual-test.true c.actual-item.is c.in_ok-access.ensures.form;
+      form = shown_goes read_form (given_form v) _ _ c.args.actuals.now c.loop-actual.actual-index c.actual-item.result _ _ _ _ c.loop-actual.invariant.form c.loop-actual-test.true c.actual-item.is c.in_ok-access.ensures.form (search rules);
     }
 
 pub returns-in_err-access-clause-value : goal.returns-in_err-access-clause-value
