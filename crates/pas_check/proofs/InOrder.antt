@@ -28,8 +28,8 @@ module _ {A B : Type 0} (form : A → Builds B) where
 
   -- ---- of the elements of a list
 
-  pub order_begins : (xs : List A) (b : Built) → in_order form xs b ≡ after [] (in_order form (drop 0 xs) b)
-  order_begins xs b = after_nothing (in_order form xs b)
+  pub order_begins : (ys : List B) (xs : List A) (b : Built) → ys ≡ [] → in_order form xs b ≡ after ys (in_order form (drop 0 xs) b)
+  order_begins ys xs b none = after_nothing (in_order form xs b) ∙ ap (λ zs. after zs (in_order form xs b)) (sym none)
 
   pub order_goes : (start : Option (List B × Built)) (ys : List B) (xs : List A) (k : ℕ) (x : A) (b : Built) (y : B) (c : Built) (more : List B) → start ≡ after ys (in_order form (drop k xs) b)
       → k < length xs → x ≡ get_or xs k x → form x b ≡ Some (y, c) → more ≡ ys ++ y ∷ [] → start ≡ after more (in_order form (drop (k + 1) xs) c)
@@ -42,8 +42,8 @@ module _ {A B : Type 0} (form : A → Builds B) where
 -- ---- of what is shown of the elements
 
 module _ {A B C : Type 0} (form : A → Builds B) (shown : C → A) where
-  pub shown_begins : (xs : List C) (b : Built) → in_order form (map shown xs) b ≡ after [] (in_order form (map shown (drop 0 xs)) b)
-  shown_begins xs b = after_nothing (in_order form (map shown xs) b)
+  pub shown_begins : (ys : List B) (xs : List C) (b : Built) → ys ≡ [] → in_order form (map shown xs) b ≡ after ys (in_order form (map shown (drop 0 xs)) b)
+  shown_begins ys xs b none = after_nothing (in_order form (map shown xs) b) ∙ ap (λ zs. after zs (in_order form (map shown xs) b)) (sym none)
 
   pub shown_goes : (start : Option (List B × Built)) (ys : List B) (xs : List C) (k : ℕ) (x : C) (b : Built) (y : B) (c : Built) (more : List B) → start ≡ after ys (in_order form (map shown (drop k xs)) b)
       → k < length xs → x ≡ get_or xs k x → form (shown x) b ≡ Some (y, c) → more ≡ ys ++ y ∷ [] → start ≡ after more (in_order form (map shown (drop (k + 1) xs)) c)

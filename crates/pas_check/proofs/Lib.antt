@@ -1,5 +1,6 @@
 pub mod Blocks
 pub mod ByName
+pub mod Calls
 pub mod Constants
 pub mod Declarations
 pub mod Declared

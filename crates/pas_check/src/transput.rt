@@ -60,7 +60,7 @@ impl<'t> Seen<'t> {
         self.called_by(made, meaning, name, actuals)
     }
 
-    #[tactic(auto, unfolding(crate::specs::Statements::called_by))]
+    #[tactic(auto, unfolding(crate::specs::Statements::called_by, crate::specs::StatementForms::called_form))]
     fn called_by(
         &self,
         made: &mut Made,
@@ -107,7 +107,7 @@ impl<'t> Seen<'t> {
         })
     }
 
-    #[tactic(auto, unfolding(crate::specs::Statements::transput_call))]
+    #[tactic(auto, unfolding(crate::specs::Statements::transput_call, crate::specs::StatementForms::transput_form))]
     fn transput(
         &self,
         made: &mut Made,
