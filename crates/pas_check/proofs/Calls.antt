@@ -1,5 +1,6 @@
 -- What procedure calls, assignments and the constants of a `case` are in the program, one step at a time.
-use Rattle.std.proofs.Common.{◌≡◌, ℕ, ℤ, ◌+◌, ◌<◌, ◌≤◌, Bool, true, false, List, [], ◌∷◌, ◌++◌, length, get_or, drop, map, Option, Some, None, Result, Ok, Err, refl, sym, ap, ◌∙◌, append_assoc}
+use Rattle.std.proofs.Common.{◌≡◌, ℕ, ℤ, ◌+◌, ◌<◌, ◌≤◌, Bool, true, false, List, [], ◌∷◌, ◌++◌, length, get_or, drop, map, Option, Some, None, Result, Ok, Err, refl, sym, ap, subst, ◌∙◌, append_assoc}
+use Rattle.std.specs.Prelude.{IfOk}
 use Rattle.std.specs.Option.{option_map}
 use Rattle.std.proofs.lemmas.List.{append-nil, drop_all}
 use Rattle.px_base.specs.declared.place.Span.{Span}
@@ -124,11 +125,14 @@ procedure_is v head at actuals b c callee xs is passed =
     part_is (callee_at v head) (λ y. all_passed_form (formals_at v head) actuals b >>= (λ ys. Some (body.Call y.routine ys.0 at, ys.1))) callee _ is
     (part_is (all_passed_form (formals_at v head) actuals b) (λ ys. Some (body.Call callee.routine ys.0 at, ys.1)) (xs, c) _ passed refl)
 
-pub call_is : (v : Sight) (name : Span) (actuals : List GivenForm) (b named : Built) (m : Meaning) (r : Option (Body × Built)) → meant v name ≡ Ok m → named ≡ b → called_form v m name.start actuals named ≡ r
-    → call_form v name actuals b ≡ r
+call_by : (v : Sight) (name : Span) (actuals : List GivenForm) (b named : Built) (m : Meaning) → meant v name ≡ Ok m → named ≡ b → call_form v name actuals b ≡ called_form v m name.start actuals named
 unfolding call_form
-call_is v name actuals b named m r is kept called =
-    part_is (allowed (meant v name)) (λ y. called_form v y name.start actuals b) m r (ap allowed is) (ap (called_form v m name.start actuals) (sym kept) ∙ called)
+call_by v name actuals b named m is kept =
+    part_is (allowed (meant v name)) (λ y. called_form v y name.start actuals b) m (called_form v m name.start actuals named) (ap allowed is) (ap (called_form v m name.start actuals) (sym kept))
+
+pub call_is : (v : Sight) (name : Span) (actuals : List GivenForm) (b named done : Built) (m : Meaning) (r : Outcome Body) → meant v name ≡ Ok m → named ≡ b → IfOk r (λ x. called_form v m name.start actuals named ≡ Some (x, done))
+    → IfOk r (λ x. call_form v name actuals b ≡ Some (x, done))
+call_is v name actuals b named done m r is kept called = subst (λ (o : Option (Body × Built)). IfOk r (λ x. o ≡ Some (x, done))) (sym (call_by v name actuals b named m is kept)) called
 
 -- ---- assignment
 

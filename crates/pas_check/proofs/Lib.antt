@@ -14,6 +14,7 @@ pub mod Meanings
 pub mod Noted
 pub mod Passing
 pub mod Plans
+pub mod Quotes
 pub mod Reaching
 pub mod ReachingLaw
 pub mod ReachingMarks

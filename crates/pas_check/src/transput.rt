@@ -30,10 +30,12 @@ fn unquoted(alloc: Global, quoted: &[u8]) -> Result<Items<u8>, AllocError>
     let mut skip = true;
     for byte in quoted.get(..quoted.len().saturating_sub(1)).unwrap_or(&[]) {
         let quote = *byte == b'\'';
-        if !(quote && skip) {
-            bytes.push(*byte)?;
+        if quote && skip {
+            skip = false;
+            continue;
         }
-        skip = quote && !skip;
+        bytes.push(*byte)?;
+        skip = quote;
     }
     Ok(bytes)
 }
