@@ -1,5 +1,6 @@
 -- What procedure calls, assignments and the constants of a `case` are in the program, one step at a time.
-use Rattle.std.proofs.Common.{◌≡◌, ℕ, ℤ, ◌+◌, ◌<◌, ◌≤◌, Bool, true, false, List, [], ◌∷◌, ◌++◌, length, get_or, drop, map, Option, Some, None, Result, Ok, Err, refl, sym, ap, subst, ◌∙◌, append_assoc}
+use Rattle.std.proofs.Common.{◌≡◌, ℕ, ℤ, ◌+◌, ◌<◌, ◌≤◌, Bool, true, false, List, [], ◌∷◌, ◌++◌, length, get_or, drop, map, Option, Some, None, Result, Ok, Err, refl, sym, ap, subst, ◌∙◌, add-one, append_assoc}
+use Rattle.std.proofs.Math.Seq.{drop-cons}
 use Rattle.std.specs.Prelude.{IfOk}
 use Rattle.std.specs.Option.{option_map}
 use Rattle.std.proofs.lemmas.List.{append-nil, drop_all}
@@ -26,8 +27,10 @@ use Rattle.pas_check.specs.declared.actual.Formal.{Formal}
 use Rattle.pas_check.specs.declared.built.Built.{Built}
 use Rattle.pas_check.specs.declared.expr.Typed.{Typed}
 use Rattle.pas_check.specs.declared.meaning.Meaning.{Meaning}
+use Rattle.pas_check.specs.declared.meaning.Value.{Value}
 use Rattle.pas_check.specs.declared.meaning.Variable.{Variable}
 use Rattle.pas_check.specs.Built.{Builds, ◌>>=◌, allowed, in_order}
+use Rattle.pas_check.specs.Constant.{constant}
 use Rattle.pas_check.specs.Expr.{Call, callee_at, formals_at, meant}
 use Rattle.pas_check.specs.Forms.{Form, GivenForm, access_form, access_step, actual_step, actual_value_form, all_passed_form, as_scalar, expr_form, expr_step, expression_form, given_form, operand_form, reached_form, scalar_form, value_step}
 use Rattle.pas_check.specs.Names.{spelling}
@@ -35,7 +38,6 @@ use Rattle.pas_check.specs.Outcome.{Outcome, each}
 use Rattle.pas_check.specs.Sight.{Sight}
 use Rattle.pas_check.specs.Statement.{target_by}
 use Rattle.pas_check.specs.StatementForms.{assigned_form, assignment_form, call_form, called_form, constants_form, constant_value, item_form, procedure_form, read_form, reads_form, target_form, unquoted, value_assigned_form, width_form, writes_form, written_form}
-use Rattle.pas_check.proofs.Passing.{drop_next}
 use Rattle.pas_check.proofs.Turns.{each_goes, each_map}
 
 -- ---- actuals, one level at a time
@@ -161,20 +163,28 @@ abbrev pub constants_after : List ℤ → Option (List ℤ) → Option (List ℤ
 constants_after before None = None
 constants_after before (Some zs) = Some (before ++ zs)
 
-pub constants_begin : (o : Option (List ℤ)) → o ≡ constants_after [] o
-constants_begin None = refl
-constants_begin (Some zs) = refl
+after_nothing : (o : Option (List ℤ)) → o ≡ constants_after [] o
+after_nothing None = refl
+after_nothing (Some zs) = refl
+
+pub constants_begin : (v : Sight) (before : List ℤ) (constants : List Constant) → before ≡ [] → constants_form v constants ≡ constants_after before (constants_form v (drop 0 constants))
+constants_begin v before constants none = after_nothing (constants_form v constants) ∙ ap (λ zs. constants_after zs (constants_form v constants)) (sym none)
 
 one_more : (before : List ℤ) (z : ℤ) (o : Option (List ℤ)) → constants_after before (o >>= (λ zs. Some (z ∷ zs))) ≡ constants_after (before ++ z ∷ []) o
 one_more before z None = refl
 one_more before z (Some zs) = ap Some (sym (append_assoc before (z ∷ []) zs))
 
 module _ (v : Sight) (start : Option (List ℤ)) (before : List ℤ) (constants : List Constant) (k : ℕ) (so : start ≡ constants_after before (constants_form v (drop k constants))) where
-  pub constants_go : (c : Constant) (z : ℤ) (more : List ℤ) → k < length constants → c ≡ get_or constants k c → constant_value v c ≡ Some z → more ≡ before ++ z ∷ [] → start ≡ constants_after more (constants_form v (drop (k + 1) constants))
-  constants_go c z more h e is pushed =
-      so ∙ ap (λ cs. constants_after before (constants_form v cs)) (drop_next constants k c h e)
+  pub constants_go : (other : Constant) (z : ℤ) (more : List ℤ) → k < length constants → constant_value v (get_or constants k other) ≡ Some z → more ≡ before ++ z ∷ [] → start ≡ constants_after more (constants_form v (drop (k + 1) constants))
+  constants_go other z more h is pushed =
+      let next : drop k constants ≡ get_or constants k other ∷ drop (k + 1) constants = rw add-one (drop-cons constants k other h) in
+      so ∙ ap (λ cs. constants_after before (constants_form v cs)) next
       ∙ ap (λ (o : Option ℤ). constants_after before (o >>= (λ y. constants_form v (drop (k + 1) constants) >>= (λ zs. Some (y ∷ zs))))) is
       ∙ one_more before z (constants_form v (drop (k + 1) constants)) ∙ ap (λ zs. constants_after zs (constants_form v (drop (k + 1) constants))) (sym pushed)
 
   pub constants_end : length constants ≤ k → start ≡ Some before
   constants_end h = so ∙ ap (λ cs. constants_after before (constants_form v cs)) (drop_all k constants h) ∙ ap Some (append-nil before)
+
+pub constant_is : (v : Sight) (c : Constant) (x : Value) → constant v c ≡ Ok x → constant_value v c ≡ Some x.value
+unfolding constant_value
+constant_is v c x is = part_is (allowed (constant v c)) (λ y. Some y.value) x (Some x.value) (ap allowed is) refl
