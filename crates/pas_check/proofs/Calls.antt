@@ -1,5 +1,5 @@
 -- What procedure calls, assignments and the constants of a `case` are in the program, one step at a time.
-use Rattle.std.proofs.Common.{◌≡◌, ℕ, ℤ, ◌+◌, ◌<◌, ◌≤◌, Bool, true, false, List, [], ◌∷◌, ◌++◌, length, get_or, drop, map, Option, Some, None, Result, Ok, Err, refl, sym, ap, subst, ◌∙◌, add-one, append_assoc}
+use Rattle.std.proofs.Common.{◌≡◌, ℕ, ℤ, ◌+◌, ◌<◌, ◌≤◌, Bool, List, [], ◌∷◌, ◌++◌, length, get_or, drop, map, Option, Some, None, Result, Ok, Err, refl, sym, ap, subst, ◌∙◌, add-one, append_assoc}
 use Rattle.std.proofs.Math.Seq.{drop-cons}
 use Rattle.std.specs.Prelude.{IfOk}
 use Rattle.std.specs.Option.{option_map}
@@ -23,7 +23,6 @@ use Rattle.pas_tree.specs.declared.expr.ActualValue.TheVariants as actual_value
 use Rattle.pas_tree.specs.declared.expr.ActualValue.TheViews.{out-Access, out-Actual}
 use Rattle.pas_tree.specs.declared.expr.Expr.{Expr}
 use Rattle.pas_check.specs.declared.access.Reached.{Reached}
-use Rattle.pas_check.specs.declared.actual.Formal.{Formal}
 use Rattle.pas_check.specs.declared.built.Built.{Built}
 use Rattle.pas_check.specs.declared.expr.Typed.{Typed}
 use Rattle.pas_check.specs.declared.meaning.Meaning.{Meaning}
@@ -32,7 +31,7 @@ use Rattle.pas_check.specs.declared.meaning.Variable.{Variable}
 use Rattle.pas_check.specs.Built.{Builds, ◌>>=◌, allowed, in_order}
 use Rattle.pas_check.specs.Constant.{constant}
 use Rattle.pas_check.specs.Expr.{Call, callee_at, formals_at, meant}
-use Rattle.pas_check.specs.Forms.{Form, GivenForm, access_form, access_step, actual_step, actual_value_form, all_passed_form, as_scalar, expr_form, expr_step, expression_form, given_form, operand_form, reached_form, scalar_form, value_step}
+use Rattle.pas_check.specs.Forms.{Form, GivenForm, access_form, access_step, actual_step, actual_value_form, all_passed_form, expr_form, expr_step, expression_form, given_form, operand_form, reached_form, scalar_form, value_step}
 use Rattle.pas_check.specs.Names.{spelling}
 use Rattle.pas_check.specs.Outcome.{Outcome, each}
 use Rattle.pas_check.specs.Sight.{Sight}

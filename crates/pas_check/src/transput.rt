@@ -27,6 +27,7 @@ fn unquoted(alloc: Global, quoted: &[u8]) -> Result<Items<u8>, AllocError>
     ensures { IfOk result (λ bytes. bytes ≡ forms.unquoted quoted.now) }
 {
     let mut bytes = Items::new(alloc);
+    // Whether a quote that comes next is left out.
     let mut skip = true;
     for byte in quoted.get(..quoted.len().saturating_sub(1)).unwrap_or(&[]) {
         let quote = *byte == b'\'';

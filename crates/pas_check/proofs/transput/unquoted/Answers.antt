@@ -17,7 +17,7 @@ loop-byte-preserved c =
     let items = c.unwrap_or-byte-items.result.now in
     let k = c.loop-byte.byte-index in
     let other : (nat_eq (get_or items k 0) quote && c.loop-byte.skip) ≡ false =
-        elim c.else-quote.branch [ else-quote-via-then-quote+else-skip w ↦ no_skip _ _ w.if-skip.false | else-quote-via-else-quote w ↦ ap (λ b. b && c.loop-byte.skip) (ne_eqb _ _ w.if-quote.false) ] in
+    elim c.else-quote.branch [ else-quote-via-then-quote+else-skip w ↦ no_skip _ _ w.if-skip.false | else-quote-via-else-quote w ↦ ap (λ b. b && c.loop-byte.skip) (ne_eqb _ _ w.if-quote.false) ] in
     kept (unquoted c.args.quoted.now) c.loop-byte.bytes items k c.loop-byte-test.true c.loop-byte.skip c.push.new.self c.loop-byte.invariant other c.in_ok-push.ensures.ok
 
 pub returns : goal.returns

@@ -1,5 +1,4 @@
 use Rattle.std.proofs.Common.{◌≡◌, ap, ◌∙◌, rules}
-use Rattle.pas_check.specs.Names.{spelling}
 use Rattle.pas_check.specs.Sight.{sight}
 use Rattle.pas_check.specs.StatementForms.{unquoted}
 use Rattle.pas_check.proofs.Calls.{operand_is, text_form_is, value_form_is}
