@@ -1,5 +1,6 @@
 pub mod Blocks
 pub mod ByName
+pub mod Calls
 pub mod Constants
 pub mod Declarations
 pub mod Declared
@@ -14,6 +15,7 @@ pub mod Meanings
 pub mod Noted
 pub mod Passing
 pub mod Plans
+pub mod Quotes
 pub mod Reaching
 pub mod ReachingLaw
 pub mod ReachingMarks
