@@ -1,5 +1,6 @@
 pub mod Blocks
 pub mod ByName
+pub mod Calls
 pub mod Constants
 pub mod Declarations
 pub mod Declared
@@ -7,17 +8,20 @@ pub mod Formals
 pub mod Forms
 pub mod Found
 pub mod Headings
+pub mod InOrder
 pub mod Labels
 pub mod Loops
 pub mod Meanings
 pub mod Noted
 pub mod Passing
 pub mod Plans
+pub mod Quotes
 pub mod Reaching
 pub mod ReachingLaw
 pub mod ReachingMarks
 pub mod ReachingNotes
 pub mod Routines
+pub mod StatementForms
 pub mod Statements
 pub mod Turns
 pub mod Writes

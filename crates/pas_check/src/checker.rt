@@ -127,27 +127,28 @@ impl<'t> Checker<'t> {
         Ok(checker)
     }
 
+    #[tactic(auto, unfolding(crate::specs::Sight::sight))]
     fn into_program(self) -> Result<Program, Fault>
         ensures memory { IfErr result IsMemory }
-        ensures types { IfOk result (λ p. p.types ≡ (sight self.seen).types) }
-        ensures vars { IfOk result (λ p. p.vars ≡ self.made.built.vars) }
-        ensures routines { IfOk result (λ p. p.routines ≡ self.made.built.routines) }
-        ensures asserts { IfOk result (λ p. p.asserts ≡ self.made.built.asserts) }
+        ensures types { IfOk result (λ p. p.types ≡ (sight self.entry.seen).types) }
+        ensures vars { IfOk result (λ p. p.vars ≡ self.entry.made.built.vars) }
+        ensures routines { IfOk result (λ p. p.routines ≡ self.entry.made.built.routines) }
+        ensures asserts { IfOk result (λ p. p.asserts ≡ self.entry.made.built.asserts) }
         ensures controls { IfOk result (λ p. ControlsAreLocal (tables p) p.routines) }
         ensures labels { IfOk result (λ p. LabelsStand p.routines) }
         ensures constants { IfOk result (λ p. ConstantsDiffer p.routines) }
         ensures assertions { IfOk result (λ p. AssertsStand p.routines p.asserts) }
     {
         let Checker { seen, made } = self;
-        let alloc = seen.alloc;
-        let types = seen.types.into_list();
+        let Seen { alloc, types, .. } = seen;
+        let Made { built, .. } = made;
         let Built {
             vars,
             routines,
             asserts,
             ..
-        } = made.built;
-        match program_of(alloc, types, vars, routines, asserts) {
+        } = built;
+        match program_of(alloc, types.into_list(), vars, routines, asserts) {
             Ok(Some(program)) => Ok(program),
             Ok(None) => Err(Fault::Memory(AllocError)),
             Err(error) => Err(Fault::Memory(error)),

@@ -418,7 +418,7 @@ impl<'t> Seen<'t> {
 
     /// A `goto` that stands at `at`: to a statement that contains it, a member of a sequence that contains it, or a member
     /// of the outermost sequence of a block around it.
-    #[tactic(auto, unfolding(crate::specs::Sight::sight))]
+    #[tactic(auto, unfolding(crate::specs::Sight::sight, crate::specs::StatementForms::goto_form))]
     pub fn goto(&self, label: Label, at: u32) -> Result<Body, Fault>
         ensures value { Gives (λ b. tt) (spec.goto_allowed (sight self.now).labels label at) result }
         ensures form { IfOk result (λ b. goto_form (sight self.now) label at ≡ Some b) }
