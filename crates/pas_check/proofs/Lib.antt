@@ -11,6 +11,7 @@ pub mod Labels
 pub mod Loops
 pub mod Meanings
 pub mod Noted
+pub mod OneAnswer
 pub mod Passing
 pub mod Plans
 pub mod Reaching
