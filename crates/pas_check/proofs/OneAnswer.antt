@@ -1,6 +1,7 @@
--- A tree has one answer: what a block, its routines and its end may answer is one outcome.
-use Rattle.std.proofs.Common.{◌≡◌, ℕ, List, [], ◌∷◌, Option, None, Some, Ok, Err, refl, sym, ap, subst, ◌∙◌}
+-- A tree has one answer: two derivations of what a block, its routines or its end may answer give the same.
+use Rattle.std.proofs.Common.{◌≡◌, ℕ, List, Ok, Err, refl, sym, ap, subst, ◌∙◌}
 use Rattle.px_base.specs.declared.place.Span.{Span}
+use Rattle.pas_program.specs.declared.program.Program.{Program}
 use Rattle.pas_program.specs.declared.statement.Statement.{Statement}
 use Rattle.pas_tree.specs.declared.block.Block.{Block}
 use Rattle.pas_tree.specs.declared.block.Tree.{Tree}
@@ -10,13 +11,21 @@ use Rattle.pas_tree.specs.declared.block.RoutineBody.TheOpen.{RoutineBody-F}
 use Rattle.pas_tree.specs.declared.block.RoutineBody.TheVariants as body_of
 use Rattle.pas_check.specs.declared.built.Built.{Built}
 use Rattle.pas_check.specs.declared.fault.Fault.{Fault}
+use Rattle.pas_check.specs.declared.fault.Fault.TheVariants.{Broken}
+use Rattle.pas_check.specs.declared.fault.Rule.{Rule}
 use Rattle.pas_check.specs.declared.heading.Opened.{Opened}
-use Rattle.pas_check.specs.Blocks.{BlockMay, EndMay, Planned, ProgramMay, RoutineMay, RoutinesMay, Standing, block_built, begins, ends, forward_read, goes_on, in_block, in_routines, is_word, no_more, not_begun, not_ended, not_opened, nothing_waits, opened, planned_in, standing, stops_in, to_end, whole_block}
+use Rattle.pas_check.specs.Accepted.{IsProgramOf}
+use Rattle.pas_check.specs.Blocks.{BlockMay, EndMay, IsFirstBroken, Planned, ProgramMay, RoutineMay, RoutinesMay, Standing, block_built, begins, ends, forward_read, goes_on, in_block, in_routines, is_word, no_more, not_begun, not_ended, not_opened, nothing_waits, opened, planned_in, standing, stops_in, to_end, whole_block}
 use Rattle.pas_check.specs.Outcome.{Outcome}
 use Rattle.pas_check.specs.Sight.{Sight}
 use Rattle.pas_check.specs.Stage.{Stage}
 
 -- ---- the end of a block
+
+ended_alike : (s : Stage) (b : Block) (w v : Sight) (x y : List Statement × Built) → w ≡ v → x ≡ y → ◌≡◌ {A = Outcome Stage} (Ok (record { seen = w; built = block_built s.built.frame b x.0 x.1 })) (Ok (record { seen = v; built = block_built s.built.frame b y.0 y.1 }))
+ended_alike s b w v x y seen built =
+    ap (λ (h : Sight). Ok (record { seen = h; built = block_built s.built.frame b x.0 x.1 })) seen
+    ∙ ap (λ (z : List Statement × Built). Ok (record { seen = v; built = block_built s.built.frame b z.0 z.1 })) built
 
 one_end : (s : Stage) (p : Opened) (b : Block) (text : List ℕ) (t : Stage) {o u : Outcome Stage} → EndMay s p b text t o → EndMay s p b text t u → o ≡ u
 one_end s p b text t (not_ended {f = f} e) (not_ended {f = g} d) = let same : f ≡ g = cc in ap Err same
@@ -25,8 +34,7 @@ one_end s p b text t (ends e form last) (not_ended d) = absurd (cc)
 one_end s p b text t (ends {w = w} {x = x} e form last) (ends {w = v} {x = y} d other end) =
     let seen : w ≡ v = cc in
     let built : x ≡ y = cc in
-    ap (λ (h : Sight). Ok (record { seen = h; built = block_built s.built.frame b x.0 x.1 })) seen
-    ∙ ap (λ (z : List Statement × Built). Ok (record { seen = v; built = block_built s.built.frame b z.0 z.1 })) built
+    ended_alike s b w v x y seen built
 
 -- ---- the body of a routine
 
@@ -144,5 +152,37 @@ mutual
   one_routine (whole_block {s = s} {p = p} {w = w} c e h k) (whole_block {w = v} b d i j) =
       same_after s p c b e d _ _ _ _ h i w v (one_block k (same_block s p c b e d _ _ _ _ h i (Ok v) j))
 
+-- ---- programs
+
 pub one_answer : (text : List ℕ) (tree : Tree) (o u : Outcome Stage) → ProgramMay text tree o → ProgramMay text tree u → o ≡ u
-one_answer text tree o u d e = one_block d e
+one_answer text tree o u = one_block
+
+module _ (text : List ℕ) (tree : Tree) where
+  pub fault_or_program : (rule : Rule) (at : ℕ) (p : Program) → IsFirstBroken text tree rule at → IsProgramOf text tree p → ⊥
+  fault_or_program rule at p broken is = let never = one_block broken is.passes in cc
+
+  module _ (rule other : Rule) (at there : ℕ) (first : IsFirstBroken text tree rule at) (second : IsFirstBroken text tree other there) where
+    same_answer : ◌≡◌ {A = Outcome Stage} (Err (Broken rule at)) (Err (Broken other there))
+    same_answer = one_block first second
+
+    pub one_rule : rule ≡ other
+    one_rule = let same = same_answer in cc
+
+    pub one_place : at ≡ there
+    one_place = let same = same_answer in cc
+
+  module _ (p q : Program) (is : IsProgramOf text tree p) (other : IsProgramOf text tree q) where
+    after_both : is.after ≡ other.after
+    after_both = let same = one_block is.passes other.passes in cc
+
+    pub one_types : p.types ≡ q.types
+    one_types = is.types ∙ ap (λ (s : Stage). s.seen.types) after_both ∙ sym other.types
+
+    pub one_vars : p.vars ≡ q.vars
+    one_vars = is.vars ∙ ap (λ (s : Stage). s.built.vars) after_both ∙ sym other.vars
+
+    pub one_routines : p.routines ≡ q.routines
+    one_routines = is.routines ∙ ap (λ (s : Stage). s.built.routines) after_both ∙ sym other.routines
+
+    pub one_asserts : p.asserts ≡ q.asserts
+    one_asserts = is.asserts ∙ ap (λ (s : Stage). s.built.asserts) after_both ∙ sym other.asserts
