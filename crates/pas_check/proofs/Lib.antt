@@ -13,6 +13,7 @@ pub mod Labels
 pub mod Loops
 pub mod Meanings
 pub mod Noted
+pub mod OneAnswer
 pub mod Passing
 pub mod Plans
 pub mod Quotes

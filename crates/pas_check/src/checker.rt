@@ -1,14 +1,13 @@
-ghost use Rattle.std.specs.Prelude.{◌≡◌, ℕ, [], List, IfErr, IfOk, length, map, true};
-ghost use Rattle.pas_tree.specs.declared.block.Tree.{Tree as Parsed};
+ghost use Rattle.std.specs.Prelude.{◌≡◌, ℕ, [], IfErr, IfOk, length, map, true};
 ghost use Rattle.pas_check.specs.Accepted.{IsProgramOf};
-ghost use Rattle.pas_check.specs.Blocks.{IsSound, IsSoundFault, ProgramMay, all_ended, at_first, program_start, required};
+ghost use Rattle.pas_check.specs.Blocks.{IsSound, IsSoundFault, all_ended, at_first, program_start, required};
 ghost use Rattle.pas_check.specs.Built.{nothing_built};
 ghost use Rattle.pas_check.specs.Fault.{IsWithin};
 ghost use Rattle.pas_check.specs.Headings.{inside};
 ghost use Rattle.pas_check.specs.Labels.{labelled, unlabelled};
-ghost use Rattle.pas_check.specs.Outcome.{IsMemory, Outcome};
+ghost use Rattle.pas_check.specs.Outcome.{IsMemory};
 ghost use Rattle.pas_check.specs.Sight.{sight};
-ghost use Rattle.pas_check.specs.Stage.{Stage, stage};
+ghost use Rattle.pas_check.specs.Stage.{stage};
 ghost use Rattle.pas_program.specs.Checked.{tables};
 ghost use Rattle.pas_program.specs.Labels.{AssertsStand, ConstantsDiffer, ControlsAreLocal, LabelsStand};
 
@@ -66,12 +65,6 @@ fn checked(alloc: Global, text: &[u8], tree: &Tree) -> Result<Program, Fault>
     checker.program(tree)?;
     checker.into_program()
 }
-
-/// A law: a tree has one answer. So a tree that breaks a rule has one first rule that it breaks, at one place, and no program; and a
-/// tree that breaks none has one program.
-pub fn a_tree_has_one_answer()
-    ensures { (text : List ℕ) (tree : Parsed) (o u : Outcome Stage) → ProgramMay text tree o → ProgramMay text tree u → o ≡ u }
-{}
 
 impl<'t> Seen<'t> {
     /// What is seen outside all blocks.
