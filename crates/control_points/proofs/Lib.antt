@@ -20,6 +20,10 @@ pub mod Opened
 pub mod OwnCalls
 pub mod Paired
 pub mod Passing
+pub mod PathsLevels
+pub mod PathsLists
+pub mod PathsMarked
+pub mod PathsMarks
 pub mod Pointed
 pub mod Scened
 pub mod Sized

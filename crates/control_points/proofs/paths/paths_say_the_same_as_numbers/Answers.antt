@@ -1,0 +1,6 @@
+use Rattle.control_points.proofs.PathsLists.{only_position}
+use Rattle.control_points.proofs.PathsMarks.{statements_marks_are}
+use Rattle.control_points.proofs.paths.paths_say_the_same_as_numbers.Goals as goal
+
+pub returns : goal.returns
+returns _ p labels = ?
