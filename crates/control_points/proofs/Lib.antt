@@ -20,10 +20,12 @@ pub mod Opened
 pub mod OwnCalls
 pub mod Paired
 pub mod Passing
+pub mod PathsAlone
 pub mod PathsLevels
 pub mod PathsLists
 pub mod PathsMarked
 pub mod PathsMarks
+pub mod PathsOnce
 pub mod Pointed
 pub mod Scened
 pub mod Sized
