@@ -20,7 +20,9 @@ pub mod Opened
 pub mod OwnCalls
 pub mod Paired
 pub mod Passing
+pub mod PathsActions
 pub mod PathsAlone
+pub mod PathsDrawn
 pub mod PathsLevels
 pub mod PathsLists
 pub mod PathsMarked

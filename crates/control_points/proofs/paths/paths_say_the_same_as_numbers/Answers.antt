@@ -1,3 +1,4 @@
+use Rattle.control_points.proofs.PathsActions.{reads_draw}
 use Rattle.control_points.proofs.PathsAlone.{statements_once}
 use Rattle.control_points.proofs.PathsLists.{only_position}
 use Rattle.control_points.proofs.PathsMarks.{statements_marks_are}
