@@ -28,6 +28,7 @@ pub mod PathsLists
 pub mod PathsMarked
 pub mod PathsMarks
 pub mod PathsOnce
+pub mod PathsParts
 pub mod PathsStatements
 pub mod Pointed
 pub mod Scened
