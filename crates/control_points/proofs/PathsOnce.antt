@@ -67,7 +67,7 @@ bit_small false = omega arith
 pub next_test : (n m : ℕ) → bit (nat_eq n m) + bit (nat_le (suc n) m) ≤ bit (nat_le n m)
 next_test n m = grind (arith, nat_tests)
 
-within_tested : (b : Bool) (q : Path) → within (cond b (Some q) None) ≡ bit b
+pub within_tested : (b : Bool) (q : Path) → within (cond b (Some q) None) ≡ bit b
 within_tested true q = refl
 within_tested false q = refl
 

@@ -365,3 +365,16 @@ module _ (g h : Site → ℕ) (plan : Plan) (label : ℕ → ℕ → Site) (r : 
       (λ z y is. subst (λ b. OfBody (roll-Body b)) is (of_body y))
       (λ z y is. subst (λ b. OfArm (roll-Arm b)) is (of_arm y))
       (λ z y is. subst (λ b. OfStatement (roll-Statement b)) is (of_statement y))
+
+  abbrev with_all : List Statement → List (With OfStatement)
+  with_all body = map (λ s. (s, statement_draws s)) body
+
+  with_all_same : (body : List Statement) → statements (with_all body) ≡ body
+  with_all_same [] = refl
+  with_all_same (s ∷ body) = ap (λ xs. s ∷ xs) (with_all_same body)
+
+  pub statements_draw : (k : ℕ) (body : List Statement) (path : Path) (next : Site) (here n : ℕ) → all_true (map (each_statement q) body) ≡ true → all_true (map (each_statement u) body) ≡ true → g next ≡ n
+      → Draws g h (ordered k body path next) here (numbers.in_order plan (map (laid_statement plan) body) here n)
+  statements_draw k body path next here n =
+      subst (λ xs. all_true (map (each_statement q) xs) ≡ true → all_true (map (each_statement u) xs) ≡ true → g next ≡ n → Draws g h (ordered k xs path next) here (numbers.in_order plan (map (laid_statement plan) xs) here n)) (with_all_same body)
+      (order_draws k (with_all body) path next here n)
