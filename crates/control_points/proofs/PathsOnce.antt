@@ -60,7 +60,7 @@ from_part n None = 0
 from_part n (Some []) = 0
 from_part n (Some (m ∷ q)) = bit (nat_le n m)
 
-bit_small : (b : Bool) → bit b ≤ 1
+pub bit_small : (b : Bool) → bit b ≤ 1
 bit_small true = omega arith
 bit_small false = omega arith
 

@@ -1,6 +1,7 @@
 -- The points, edges and checks of a program by numbers are those by paths.
-use Rattle.std.proofs.Common.{◌≡◌, ℕ, zero, suc, ◌+◌, ◌-◌, ◌<◌, ◌≤◌, Bool, true, ◌&&◌, List, [], ◌∷◌, ◌++◌, map, length, refl, sym, ap, subst, ◌∙◌, Option, Some, None, nat_eq, nat_le, arith}
+use Rattle.std.proofs.Common.{◌≡◌, ℕ, zero, suc, ◌+◌, ◌-◌, ◌<◌, ◌≤◌, Bool, true, ◌&&◌, List, [], ◌∷◌, ◌++◌, map, length, length-append, refl, sym, ap, subst, ◌∙◌, Option, Some, None, nat_eq, nat_le, arith}
 use Rattle.std.proofs.lemmas.Bool.{and_from, and_parts, ltb-true, true≢false}
+use Rattle.std.proofs.lemmas.List.{length-map}
 use Rattle.std.specs.List.{position, slice_get, slice_index, slice_range}
 use Rattle.std.specs.Option.{unwrap_or}
 use Rattle.pas_program.specs.declared.program.Program.{Program}
@@ -11,7 +12,7 @@ use Rattle.pas_program.specs.Checked.{tables}
 use Rattle.pas_program.specs.Each.{Rule, all_true, each_statement}
 use Rattle.pas_program.specs.Labels.{LabelsStand, count_labelled, label_rule}
 use Rattle.pas_program.specs.Scopes.{is_outermost, scope_rule}
-use Rattle.pas_program.specs.Tables.{holds_of, is_around, is_callable, head_of}
+use Rattle.pas_program.specs.Tables.{Head, holds_of, is_around, is_callable, head_of}
 use Rattle.control_points.specs.declared.check.Check.{Check}
 use Rattle.control_points.specs.declared.edge.Act.{Act}
 use Rattle.control_points.specs.declared.edge.Edge.{Edge}
@@ -23,9 +24,9 @@ use Rattle.control_points.specs.Edges.{checks_of, edges_of, label_point, plan_of
 use Rattle.control_points.specs.Edges as numbers
 use Rattle.control_points.specs.Extents.{statements_extent}
 use Rattle.control_points.specs.Labelled.{label_in}
-use Rattle.control_points.specs.Marks.{routine_marks, routines_marks, starts}
+use Rattle.control_points.specs.Marks.{mark, part_marks, routine_marks, routines_marks, starts, statements_marks}
 use Rattle.control_points.specs.Pieces.{Plan}
-use Rattle.control_points.specs.Sites.{Deed, IsFlowOf, Judged, Link, Piece, Placed, Site, act_of, block_piece, calls, check_at, does, edge_at, entry_of, exit_of, is_call, is_call_from, label_site, point_number, program_piece, returns, routines_piece, same_kind, same_path, same_site}
+use Rattle.control_points.specs.Sites.{Deed, IsFlowOf, Judged, Link, Piece, Placed, Site, act_of, block_piece, calls, check_at, does, edge_at, entry_of, exit_of, is_call, is_call_from, label_site, labels_of_body, path_of, point_number, program_piece, returns, routines_piece, same_kind, same_path, same_site}
 use Rattle.control_points.specs.Wired.{points_of}
 use Rattle.control_points.proofs.Blocks.{block_size, starts_first}
 use Rattle.control_points.proofs.Inside.{nat_eq_self, statements_inside}
@@ -34,8 +35,9 @@ use Rattle.control_points.proofs.Opened.{rule_at}
 use Rattle.control_points.proofs.PathsBlocks.{block, block_draws}
 use Rattle.control_points.proofs.PathsDrawn.{Draws, IsAt, IsCall, IsReady, act_by, check_by, draws_both, draws_nothing, edge_by}
 use Rattle.control_points.proofs.PathsLists.{EachFrom, only_position, times}
-use Rattle.control_points.proofs.PathsOnce.{IsOnce}
-use Rattle.control_points.proofs.PathsRoutines.{AllOutermost, begins, routine_block, routine_many, routine_range, routines_known, routines_once, routines_points}
+use Rattle.control_points.proofs.PathsMarked.{before_at}
+use Rattle.control_points.proofs.PathsOnce.{IsOnce, bit_small, once_within}
+use Rattle.control_points.proofs.PathsRoutines.{AllOutermost, IsKnown, begins, routine_block, routine_many, routine_range, routines_known, routines_once, routines_points}
 
 -- ---- numbers of points and of calls
 
@@ -103,7 +105,19 @@ module _ (g h : Site → ℕ) (plan : Plan) (label : ℕ → ℕ → Site) (q : 
     (jumps : (s n : ℕ) → u.jump s n ≡ true → g (label s n) ≡ plan.label s n) where
   routine_draws : (r : ℕ) (d : Routine) (e z : ℕ) → is_outermost d.body ≡ true → RoutineRules (q r) u d → z ≡ e + length (routine_marks r d) - 1
       → Draws g h (routine_block plan.tables plan.asserts label r d) e (numbers.part_piece plan d.result e z (out-Body (out-Statement d.body).body))
-  routine_draws r d e z o rules at = ?
+  routine_draws r d e z o rules at =
+      let b = begins d o in
+      let place = (out-Statement d.body).at in
+      let opened = sym (roll-out-Body (out-Statement d.body).body) ∙ ap roll-Body b.is in
+      let scopes = and_parts ((q r).sequence (length (map (each_statement (q r)) b.body))) _ (rule_at d.body (Body-F.Begin b.body b.end) opened (q r) rules.scopes) in
+      let labels = and_parts (u.sequence (length (map (each_statement u) b.body))) _ (rule_at d.body (Body-F.Begin b.body b.end) opened u rules.labels) in
+      let many : 0 < length b.body = omega (arith, some r _ scopes.0, length-map b.body (each_statement (q r))) in
+      let size = ap (λ x. length (part_marks r place x)) b.is in
+      let long = length-append (statements_marks r b.body) (mark r kind.Exit b.end ∷ []) in
+      let count = (statements_inside r b.body).count in
+      let last : z ≡ e + 1 + (statements_extent b.body).points = omega (arith, at, size, long, count) in
+      subst (λ x. Draws g h (block_piece plan.tables plan.asserts r label place d.result x) e (numbers.part_piece plan d.result e z x)) (sym b.is)
+      (block_draws g h plan label r (q r) u (ready r) (some r) jumps place d.result b.body b.end e z many scopes.1 labels.1 last)
 
   routines_draw : (first : ℕ) (routines : List Routine) (start : ℕ) → AllOutermost routines → ((k : ℕ) (d : Routine) → slice_get routines k ≡ Some d → RoutineRules (q (first + k)) u d)
       → ((k : ℕ) → slice_index plan.entries (first + k) ≡ slice_index (starts start first routines) k)
@@ -122,3 +136,74 @@ module _ (g h : Site → ℕ) (plan : Plan) (label : ℕ → ℕ → Site) (q : 
       (routines_draw (suc first) routines next (λ k e i. o (suc k) e i)
       (λ k e i. let more : first + suc k ≡ suc first + k = omega arith in subst (λ r. RoutineRules (q r) u e) more (rules (suc k) e i))
       (λ k. let more : suc first + k ≡ first + suc k = omega arith in ap (slice_index plan.entries) more ∙ at (suc k)))
+
+-- ---- a program
+
+held : {A : Type 0} (f : A → Bool) (o : Option A) → holds_of f o ≡ true → (x : A) × (o ≡ Some x) × (f x ≡ true)
+held f None h = absurd (true≢false (sym h))
+held f (Some x) h = (x, refl, h)
+
+module _ (p : Program) (stand : LabelsStand p.routines) where
+  abbrev label : ℕ → ℕ → Site
+  label = label_site p.routines
+
+  program_once : (x : Site) → IsOnce x (program_piece p) 0 1
+  program_once x =
+      let small = bit_small (nat_le 0 x.routine) in
+      once_within x (program_piece p) 0 0 _ 1 (omega arith) small (routines_once (tables p) p.asserts label x 0 p.routines p.in_scope.outermost)
+
+  abbrev g : Site → ℕ
+  g = number (program_piece p) program_once
+
+  abbrev h : Site → ℕ
+  h = call_number (program_piece p) program_once
+
+  known : (k : ℕ) (d : Routine) → slice_get p.routines k ≡ Some d → IsKnown (tables p) p.asserts label g k d (slice_index (starts 0 0 p.routines) k) (slice_index (starts 0 0 p.routines) (suc k))
+  known k d e =
+      let same : 0 + k ≡ k = omega arith in
+      subst (λ r. IsKnown (tables p) p.asserts label g r d (slice_index (starts 0 0 p.routines) k) (slice_index (starts 0 0 p.routines) (suc k))) same
+      (routines_known (tables p) p.asserts label g 0 0 p.routines p.in_scope.outermost (numbered (program_piece p) program_once) k d e)
+
+  callable_of : (r routine : ℕ) (slot : Option ℕ) → callee_passes (scope_rule (tables p) r) routine slot ≡ true → is_callable (tables p) r routine ≡ true
+  callable_of r routine None e = e
+  callable_of r routine (Some slot) e = (and_parts (is_callable (tables p) r routine) _ e).0
+
+  program_ready : (r routine : ℕ) (slot : Option ℕ) → callee_passes (scope_rule (tables p) r) routine slot ≡ true → IsReady g h (plan_of p) routine
+  program_ready r routine slot e =
+      let f = found_of (λ (x : Head). holds_of (λ z. is_around (tables p) r z) x.parent) head_of (slice_get p.routines routine) (callable_of r routine slot e) in
+      let k = known routine f.0 f.1 in
+      record { entry = k.entry; exit = k.exit }
+
+  program_jumps : (s n : ℕ) → (label_rule p.routines).jump s n ≡ true → g (label s n) ≡ label_point (routines_marks 0 p.routines) (starts 0 0 p.routines) s n
+  program_jumps s n e =
+      let f = held (λ (d : Routine). nat_eq (count_labelled n d.body) 1) (slice_get p.routines s) e in
+      let first = slice_index (starts 0 0 p.routines) s in
+      let end = slice_index (starts 0 0 p.routines) (suc s) in
+      let same : 0 + s ≡ s = omega arith in
+      ap (λ o. g (before_at s (path_of (labels_of_body o) n))) f.1
+      ∙ (known s f.0 f.1).jump n (end - 1) f.2
+      ∙ ap (λ ms. unwrap_or (label_in first ms n) (end - 1)) (ap (λ r. routine_marks r f.0) (sym same) ∙ sym (routine_range [] 0 p.routines s f.0 f.1))
+
+  program_draws : Draws g h (program_piece p) 0 (numbers.program_piece p)
+  program_draws =
+      routines_draw g h (plan_of p) label (scope_rule (tables p)) (label_rule p.routines) program_ready (λ r n e. ltb-true 0 n e) program_jumps 0 p.routines 0 p.in_scope.outermost
+      (λ k d e. let same : k ≡ 0 + k = omega arith in subst (λ r. RoutineRules (scope_rule (tables p) r) (label_rule p.routines) d) same (record { scopes = p.in_scope.body k d e; labels = stand.each k d e }))
+      (λ k. let same : 0 + k ≡ k = omega arith in ap (slice_index (starts 0 0 p.routines)) same)
+
+  pub paths_are_numbers : IsFlowOf p (points_of (routines_marks 0 p.routines)) (edges_of p) (checks_of p)
+  paths_are_numbers =
+      let gives = program_draws.drawn (numbered (program_piece p) program_once) 0 (calls_numbered (program_piece p) program_once) in
+      record {
+        points_are = sym (routines_points (tables p) p.asserts label 0 p.routines p.in_scope.outermost);
+        edges_are = sym (same_edges (program_piece p) program_once (program_piece p).links ∙ gives.edges);
+        checks_are = sym gives.checks;
+      }
+
+pub flow_is_of_paths : (f : Flow) → LabelsStand f.program.routines → IsFlowOf f.program f.points f.edges f.checks
+flow_is_of_paths f stand =
+    let w = paths_are_numbers f.program stand in
+    record {
+      points_are = f.exact.points_are ∙ w.points_are;
+      edges_are = f.exact.edges_are ∙ w.edges_are;
+      checks_are = f.exact.checks_are ∙ w.checks_are;
+    }
