@@ -1,5 +1,5 @@
 -- Actions by paths draw those by numbers: calls before an action, a condition, and the parameters of `read` and `write`.
-use Rattle.std.proofs.Common.{◌≡◌, ℕ, zero, suc, ◌+◌, true, false, List, [], ◌∷◌, ◌++◌, length, length-append, refl, sym, ap, subst, ◌∙◌, Some, arith}
+use Rattle.std.proofs.Common.{◌≡◌, ℕ, suc, ◌+◌, true, false, List, [], ◌∷◌, length, length-append, refl, sym, ap, subst, ◌∙◌, Some, arith}
 use Rattle.std.specs.List.{slice_get}
 use Rattle.pas_program.specs.declared.expr.Access.{Access}
 use Rattle.pas_program.specs.declared.expr.Actual.TheViews.{out-Access}
@@ -18,8 +18,8 @@ use Rattle.control_points.specs.Pieces as pieces
 use Rattle.control_points.specs.Sites.{Path, Piece, Site, action, both, call_checks, call_links, call_piece, condition, judged, made, place_of_written, point_of, reads, way, writes}
 use Rattle.control_points.proofs.Fitting.{EachSite}
 use Rattle.control_points.proofs.Followed.{both_again}
-use Rattle.control_points.proofs.PathsDrawn.{Draws, IsAt, IsReady, draws_bare, draws_both, draws_call, draws_judged, draws_knowing, draws_like, draws_nothing, draws_point, draws_way, none_before, none_behind, same_behind}
-use Rattle.control_points.proofs.PathsLists.{EachFrom, each_at, each_first, each_front, each_past, each_rest}
+use Rattle.control_points.proofs.PathsDrawn.{Draws, IsAt, IsReady, draws_both, draws_call, draws_judged, draws_knowing, draws_like, draws_nothing, draws_point, draws_way, none_before, none_behind, same_behind}
+use Rattle.control_points.proofs.PathsLists.{EachFrom, each_first, each_front, each_past, each_rest}
 
 module _ (g h : Site → ℕ) (plan : Plan) (r : ℕ) where
   abbrev pub AreReady : Sites → Type 0
@@ -101,7 +101,7 @@ module _ (g h : Site → ℕ) (plan : Plan) (r : ℕ) where
     parameter_draws : (path : Path) (k : ℕ) (source past : Site) (at : ℕ) (sites : Sites) (faults : Faults) (a : Act) (s : ℕ) (rest : Piece) (q : pieces.Piece) → AreReady sites → g source ≡ s
         → (g past ≡ s + suc (length sites) → Draws g h rest (s + suc (length sites) + 1) q)
         → Draws g h (both (made plan.tables r path k source sites).piece (both (judged (made plan.tables r path k source sites).here faults) (both (way (made plan.tables r path k source sites).here a past) (both (point_of past at) rest)))) (s + 1)
-            (pieces.both (pieces.both (pieces.calls plan sites s) (pieces.both (pieces.judged (s + length sites) faults) (pieces.way (s + length sites) a (s + length sites + 1)))) q)
+        (pieces.both (pieces.both (pieces.calls plan sites s) (pieces.both (pieces.judged (s + length sites) faults) (pieces.way (s + length sites) a (s + length sites + 1)))) q)
     parameter_draws path k source past at sites faults a s rest q ready e f =
         let m = made plan.tables r path k source sites in
         let b = s + 1 + length sites in

@@ -1,5 +1,5 @@
 -- No point stands twice in a statement, and no two calls leave one.
-use Rattle.std.proofs.Common.{◌≡◌, ℕ, ℤ, suc, ◌+◌, ◌≤◌, Bool, true, false, List, [], ◌∷◌, ◌++◌, map, refl, sym, ap, subst, ◌∙◌, Option, Some, None, arith}
+use Rattle.std.proofs.Common.{◌≡◌, ℕ, ℤ, suc, ◌+◌, ◌≤◌, true, false, List, [], ◌∷◌, ◌++◌, map, refl, sym, ap, subst, Some, None, arith}
 use Rattle.pas_program.proofs.Weaker.{With}
 use Rattle.pas_program.specs.declared.expr.Access.{Access}
 use Rattle.pas_program.specs.declared.expr.Actual.TheViews.{out-Access}
@@ -17,12 +17,12 @@ use Rattle.control_points.specs.declared.edge.Act.{Act}
 use Rattle.control_points.specs.declared.edge.Act.TheVariants as act
 use Rattle.control_points.specs.declared.point.PointKind.TheVariants as kind
 use Rattle.control_points.specs.Calls.{CallSite, Sites, access_calls, actuals_calls, expr_calls, item_calls}
-use Rattle.control_points.specs.Checking.{Faults, access_checks, assert_checks, assigned_checks, bounds_checks, expr_checks, item_checks, read_checks, selector_checks}
-use Rattle.control_points.specs.Evaluation.{access_type, var_type}
-use Rattle.control_points.specs.Sites.{Made, Path, Piece, Placed, Placing, Site, does, action, arms_from, before, body_step, both, call_checks, call_links, condition, in_order, is_call_from, judged, line_act, made, no_arms, nothing, place_of_written, point_of, reads, same_site, way, writes}
+use Rattle.control_points.specs.Checking.{Faults, bounds_checks, expr_checks, selector_checks}
+use Rattle.control_points.specs.Evaluation.{var_type}
+use Rattle.control_points.specs.Sites.{Made, Path, Piece, Placed, Placing, Site, does, action, arms_from, before, body_step, both, call_checks, call_links, condition, in_order, is_call_from, line_act, made, no_arms, nothing, place_of_written, point_of, reads, same_site, way, writes}
 use Rattle.control_points.proofs.PathsLevels.{arm_opened, body_opened, placed, placed_arm, placed_body, placed_in, statement_opened}
 use Rattle.control_points.proofs.PathsLists.{bit, times_both}
-use Rattle.control_points.proofs.PathsOnce.{IsOnce, at_place, from_number, from_part, first_fits, in_calls, in_points, inner_place, number_split, once_both, once_call, once_judged, once_nothing, once_point, once_way, once_within, one_of, part_split, room, statement_fits, within}
+use Rattle.control_points.proofs.PathsOnce.{IsOnce, at_place, from_number, from_part, first_fits, in_calls, in_points, inner_place, number_split, once_both, once_call, once_nothing, once_point, once_way, once_within, one_of, part_split, room, statement_fits, within}
 
 module _ (t : Tables) (asserts : List Assert) (r : ℕ) (x : Site) where
   -- calls in order, of which the first has the number n and leaves the point source

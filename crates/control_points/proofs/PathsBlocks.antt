@@ -1,8 +1,7 @@
 -- The statement part of a routine by paths: its points, how often each stands there, and what it draws.
-use Rattle.std.proofs.Common.{◌≡◌, ℕ, suc, ◌+◌, ◌<◌, ◌≤◌, Bool, true, ◌&&◌, List, [], ◌∷◌, ◌++◌, map, length, length-append, refl, sym, ap, subst, ◌∙◌, Option, Some, None, true≢false, is_none, arith}
+use Rattle.std.proofs.Common.{◌≡◌, ℕ, ◌+◌, ◌<◌, true, List, [], ◌∷◌, ◌++◌, map, length, refl, sym, ap, ◌∙◌, Option, Some, None, true≢false, is_none, arith}
 use Rattle.std.proofs.lemmas.Bool.{and_parts}
 use Rattle.pas_program.specs.declared.routine.Assert.{Assert}
-use Rattle.pas_program.specs.declared.routine.Routine.{Routine}
 use Rattle.pas_program.specs.declared.statement.Arm.{Arm}
 use Rattle.pas_program.specs.declared.statement.Body.{Body}
 use Rattle.pas_program.specs.declared.statement.Body.TheOpen.{Body-F}
@@ -18,19 +17,18 @@ use Rattle.control_points.specs.Checking.{result_checks}
 use Rattle.control_points.specs.Edges as numbers
 use Rattle.control_points.specs.Edges.{laid_statement}
 use Rattle.control_points.specs.Extents.{statements_extent}
-use Rattle.control_points.specs.Marks.{Marks, mark, part_marks, statement_marks, statements_marks}
+use Rattle.control_points.specs.Marks.{part_marks}
 use Rattle.control_points.specs.Pieces.{Plan}
 use Rattle.control_points.specs.Pieces as pieces
-use Rattle.control_points.specs.Sites.{Labels, Path, Piece, Placed, Site, before, block_piece, both, entry_of, exit_of, in_order, judged, labels_in, nothing, own_label, point_of, statement_labels, way}
-use Rattle.control_points.proofs.Opened.{rule_at}
+use Rattle.control_points.specs.Sites.{Path, Piece, Site, before, block_piece, both, entry_of, exit_of, in_order, judged, labels_in, own_label, point_of, statement_labels, way}
 use Rattle.control_points.proofs.PathsAlone.{statements_once}
-use Rattle.control_points.proofs.PathsDrawn.{Draws, IsAt, IsReady, draws_both, draws_judged, draws_knowing, draws_like, draws_point, draws_way, none_before, same_behind}
+use Rattle.control_points.proofs.PathsDrawn.{Draws, IsAt, IsReady, draws_both, draws_judged, draws_knowing, draws_like, draws_point, draws_way, none_before}
 use Rattle.control_points.proofs.PathsLevels.{body_labels_opened, labels_inside, placed, statement_labels_opened}
-use Rattle.control_points.proofs.PathsLists.{EachFrom, each_first, each_front, each_past, times_both}
-use Rattle.control_points.proofs.PathsMarked.{IsMarked, marked_both, marked_like, marked_then, none_marked, one_marked}
+use Rattle.control_points.proofs.PathsLists.{EachFrom, each_first, each_front, each_past}
+use Rattle.control_points.proofs.PathsMarked.{IsMarked, marked_both, marked_then, one_marked}
 use Rattle.control_points.proofs.PathsMarks.{statements_marks_are}
-use Rattle.control_points.proofs.PathsOnce.{IsOnce, at_place, once_both, once_judged, once_point, once_way, once_within, one_of, routine_fits, within}
-use Rattle.control_points.proofs.PathsParts.{order_first, start_of, statements_many}
+use Rattle.control_points.proofs.PathsOnce.{IsOnce, at_place, once_both, once_judged, once_point, once_way, once_within, routine_fits, within}
+use Rattle.control_points.proofs.PathsParts.{order_first, statements_many}
 use Rattle.control_points.proofs.PathsStatements.{statements_draw}
 
 -- a `begin` with its statements

@@ -1,5 +1,5 @@
 -- What a statement is by paths, one level at a time.
-use Rattle.std.proofs.Common.{◌≡◌, ℕ, ℤ, List, [], ◌∷◌, ◌++◌, append_assoc, append-nil, refl, ap, ◌∙◌}
+use Rattle.std.proofs.Common.{◌≡◌, ℕ, ℤ, List, ◌++◌, ap}
 use Rattle.pas_program.specs.declared.routine.Assert.{Assert}
 use Rattle.pas_program.specs.declared.statement.Arm.{Arm}
 use Rattle.pas_program.specs.declared.statement.Body.{Body}
@@ -9,7 +9,7 @@ use Rattle.pas_program.specs.declared.statement.Body.TheViews.{roll-Arm, roll-Bo
 use Rattle.pas_program.specs.declared.statement.Statement.{Statement}
 use Rattle.pas_program.specs.Tables.{Tables}
 use Rattle.control_points.specs.Checking.{assert_checks}
-use Rattle.control_points.specs.Sites.{Labels, Path, Piece, Placing, Site, before, body_labels, body_step, both, judged, nothing, own_label, point_of, statement_labels, statement_piece, statement_step}
+use Rattle.control_points.specs.Sites.{Labels, Path, Placing, Site, before, body_labels, body_step, both, judged, own_label, point_of, statement_labels, statement_piece, statement_step}
 
 module _ (t : Tables) (asserts : List Assert) (r : ℕ) (label : ℕ → ℕ → Site) where
   abbrev pub placed_body : Body → ℕ → Placing
@@ -50,17 +50,3 @@ arm_labels_opened d path = ap (λ (f : Path → Labels). f path) (fold-roll-Arm 
 
 pub statement_labels_opened : (d : Statement-F Body Arm Statement) (path : Path) → statement_labels (roll-Statement d) path ≡ own_label d.label path ++ labels_inside d.body path
 statement_labels_opened d path = ap (λ (f : Path → Labels). f path) (fold-roll-Statement (Path → Labels) (Path → Labels) (Path → Labels) body_labels (λ a. a.body) (λ s path. own_label s.label path ++ s.body path) d)
-
--- ---- pieces one after another
-
-pub both_again : (p q s : Piece) → both (both p q) s ≡ both p (both q s)
-both_again p q s =
-    ap (λ xs. record { points = xs; links = (p.links ++ q.links) ++ s.links; checks = (p.checks ++ q.checks) ++ s.checks }) (append_assoc p.points q.points s.points)
-    ∙ ap (λ xs. record { points = p.points ++ (q.points ++ s.points); links = xs; checks = (p.checks ++ q.checks) ++ s.checks }) (append_assoc p.links q.links s.links)
-    ∙ ap (λ xs. record { points = p.points ++ (q.points ++ s.points); links = p.links ++ (q.links ++ s.links); checks = xs }) (append_assoc p.checks q.checks s.checks)
-
-pub nothing_behind : (p : Piece) → both p nothing ≡ p
-nothing_behind p =
-    ap (λ xs. record { points = xs; links = p.links ++ []; checks = p.checks ++ [] }) (append-nil p.points)
-    ∙ ap (λ xs. record { points = p.points; links = xs; checks = p.checks ++ [] }) (append-nil p.links)
-    ∙ ap (λ xs. record { points = p.points; links = p.links; checks = xs }) (append-nil p.checks)

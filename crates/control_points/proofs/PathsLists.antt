@@ -1,10 +1,10 @@
 -- Lists by the numbers of their elements: what holds of each, how many pass a test, and where the only one stands.
-use Rattle.std.proofs.Common.{◌≡◌, inl, inr, ℕ, zero, suc, ◌+◌, ◌-◌, ◌<◌, ◌≤◌, Bool, true, false, not, cond, List, [], ◌∷◌, ◌++◌, length, refl, sym, ap, subst, ◌∙◌, Some, None, nat_lt, arith}
+use Rattle.std.proofs.Common.{◌≡◌, inl, inr, ℕ, zero, suc, ◌+◌, ◌≤◌, Bool, true, not, cond, List, [], ◌∷◌, ◌++◌, length, refl, ap, subst, ◌∙◌, Some, None, nat_lt, arith}
 use Rattle.std.proofs.lemmas.Bool.{cases_Bool, cond-true, lt-ltb}
 use Rattle.std.proofs.lemmas.Option.{none-some, slice_get_within}
 use Rattle.std.specs.List.{position, position_or_len, slice_get}
 use Rattle.control_points.proofs.Blocks.{get_front, get_past}
-use Rattle.control_points.proofs.Listed.{get_more, same_some}
+use Rattle.control_points.proofs.Listed.{same_some}
 
 -- what holds of each element with its number, of which the first is start
 pub record EachFrom {A : Type 0} (P : ℕ → A → Type 0) (start : ℕ) (xs : List A) : Type 0 where
@@ -22,9 +22,6 @@ module _ {A : Type 0} (P : ℕ → A → Type 0) where
 
   pub each_rest : (n m : ℕ) (x : A) (xs : List A) → m ≡ n + 1 → EachFrom P n (x ∷ xs) → EachFrom P m xs
   each_rest n m x xs is e = each_past n m (x ∷ []) xs is e
-
-  pub each_at : (n m : ℕ) (xs : List A) → n ≡ m → EachFrom P n xs → EachFrom P m xs
-  each_at n m xs e h = subst (λ j. EachFrom P j xs) e h
 
 -- ---- how many pass a test
 

@@ -1,15 +1,14 @@
 -- Points by paths and points by numbers, side by side: the same ones, with the labels at the same places.
-use Rattle.std.proofs.Common.{◌≡◌, inl, inr, ℕ, suc, ◌+◌, Bool, true, false, cond, List, [], ◌∷◌, ◌++◌, map, length, append-nil, append_assoc, refl, sym, ap, subst, ◌∙◌, Option, Some, None, nat_eq, eqb-true, arith, true≢false}
-use Rattle.std.proofs.lemmas.Bool.{cases_Bool, cond-false, cond-true}
+use Rattle.std.proofs.Common.{◌≡◌, inl, inr, ℕ, suc, ◌+◌, Bool, true, false, cond, List, [], ◌∷◌, ◌++◌, map, length, append-nil, refl, sym, ap, subst, ◌∙◌, Option, Some, None, nat_eq, eqb-true, arith}
+use Rattle.std.proofs.lemmas.Bool.{cases_Bool}
 use Rattle.std.proofs.lemmas.List.{length-map, map-append}
 use Rattle.std.specs.Option.{option_map}
 use Rattle.pas_program.specs.Scopes.{is_the}
 use Rattle.pas_program.specs.Tables.{Tables}
 use Rattle.control_points.specs.declared.numbering.Mark.{Mark}
-use Rattle.control_points.specs.declared.point.Point.{Point}
 use Rattle.control_points.specs.declared.point.PointKind.{PointKind}
 use Rattle.control_points.specs.declared.point.PointKind.TheVariants as kind
-use Rattle.control_points.specs.Calls.{CallSite, Sites}
+use Rattle.control_points.specs.Calls.{Sites}
 use Rattle.control_points.specs.Labelled.{label_in}
 use Rattle.control_points.specs.Marks.{Marks, before_mark, call_marks, mark}
 use Rattle.control_points.specs.Sites.{Labels, Path, Placed, Site, made, own_label, point_at}
@@ -30,10 +29,6 @@ nat_eq_turned m n =
 abbrev pub or_first : {A : Type 0} → Option A → Option A → Option A
 or_first None y = y
 or_first (Some x) y = Some x
-
-or_first_none : {A : Type 0} (x : Option A) → or_first x None ≡ x
-or_first_none None = refl
-or_first_none (Some x) = refl
 
 or_first_mapped : {A B : Type 0} (f : A → B) (x y : Option A) → option_map f (or_first x y) ≡ or_first (option_map f x) (option_map f y)
 or_first_mapped f None y = refl

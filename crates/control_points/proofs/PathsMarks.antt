@@ -1,5 +1,5 @@
 -- The points of a statement by paths are those by numbers, and its labels stand at the same places.
-use Rattle.std.proofs.Common.{◌≡◌, ℕ, ℤ, suc, Bool, true, false, List, [], ◌∷◌, ◌++◌, map, append-nil, append_assoc, refl, sym, ap, subst, ◌∙◌, Option, Some, None}
+use Rattle.std.proofs.Common.{◌≡◌, ℕ, ℤ, suc, true, false, List, [], ◌∷◌, ◌++◌, map, append-nil, append_assoc, refl, sym, ap, subst, ◌∙◌, Some, None}
 use Rattle.std.specs.List.{flat_map}
 use Rattle.pas_program.proofs.Weaker.{With}
 use Rattle.pas_program.specs.declared.expr.Access.{Access}
@@ -19,9 +19,9 @@ use Rattle.pas_program.specs.Tables.{Tables}
 use Rattle.control_points.specs.declared.edge.Act.{Act}
 use Rattle.control_points.specs.declared.edge.Act.TheVariants as act
 use Rattle.control_points.specs.declared.point.PointKind.TheVariants as kind
-use Rattle.control_points.specs.Calls.{CallSite, Sites, access_calls, actuals_calls, expr_calls, item_calls}
-use Rattle.control_points.specs.Checking.{Faults, access_checks, assigned_checks, bounds_checks, expr_checks, selector_checks}
-use Rattle.control_points.specs.Evaluation.{access_type, var_type}
+use Rattle.control_points.specs.Calls.{Sites, access_calls, actuals_calls, expr_calls, item_calls}
+use Rattle.control_points.specs.Checking.{Faults, bounds_checks, expr_checks}
+use Rattle.control_points.specs.Evaluation.{var_type}
 use Rattle.control_points.specs.Marks.{Marks, arm_marks, body_marks, body_marks_step, call_marks, joined, mark, read_marks, statement_marks, statement_marks_step, write_marks}
 use Rattle.control_points.specs.Marks as marks
 use Rattle.control_points.specs.Sites.{Labels, Path, Piece, Placing, Site, action, arms_from, body_labels, body_step, call_checks, call_links, in_order, labels_in, line_act, loop_piece, made, no_arms, reads, statement_labels, way, writes}
@@ -106,8 +106,8 @@ module _ (t : Tables) (asserts : List Assert) (r : ℕ) (label : ℕ → ℕ →
   -- one level
   from_body : (d : Body-F Body Arm Statement) (at : ℕ) (path : Path) (next : Site)
       → IsMarked r (body_step t asserts r label (placed_in t asserts r label d) at path next).points
-          (body_marks_step r (map-Body Body Arm Statement (ℕ → Marks) Marks Marks (body_marks r) (arm_marks r) (statement_marks r) d) at)
-          (body_labels (map-Body Body Arm Statement (Path → Labels) (Path → Labels) (Path → Labels) labels_inside arm_labels statement_labels d) path)
+      (body_marks_step r (map-Body Body Arm Statement (ℕ → Marks) Marks Marks (body_marks r) (arm_marks r) (statement_marks r) d) at)
+      (body_labels (map-Body Body Arm Statement (Path → Labels) (Path → Labels) (Path → Labels) labels_inside arm_labels statement_labels d) path)
       → IsMarked r (placed_body t asserts r label (roll-Body d) at path next).points (body_marks r (roll-Body d) at) (labels_inside (roll-Body d) path)
   from_body d at path next h =
       marked_like r _ _ _ _ _ _

@@ -1,49 +1,25 @@
 -- Parts of statements by paths: how many points they have, which is the first, and what their own actions draw.
-use Rattle.std.proofs.Common.{◌≡◌, ℕ, zero, suc, ◌+◌, ◌<◌, Bool, true, false, ◌&&◌, List, [], ◌∷◌, ◌++◌, map, length, length-append, refl, sym, ap, subst, ◌∙◌, Option, Some, None, ℤ, arith}
-use Rattle.std.proofs.lemmas.Bool.{and_parts}
-use Rattle.std.proofs.lemmas.List.{length-map}
-use Rattle.std.proofs.lemmas.Option.{none-some}
-use Rattle.std.specs.List.{list_all, slice_get}
-use Rattle.std.specs.Option.{option_map}
-use Rattle.pas_program.proofs.Weaker.{With, to_body, to_statement}
-use Rattle.pas_program.specs.declared.expr.Access.{Access}
+use Rattle.std.proofs.Common.{◌≡◌, ℕ, suc, ◌+◌, ◌<◌, Bool, true, false, List, [], ◌∷◌, ◌++◌, map, length, refl, sym, ap, subst, ◌∙◌, arith}
 use Rattle.pas_program.specs.declared.expr.Expr.{Expr}
 use Rattle.pas_program.specs.declared.statement.Arm.{Arm}
-use Rattle.pas_program.specs.declared.statement.Body.{Body}
-use Rattle.pas_program.specs.declared.statement.Body.TheOpen.{Arm-F, Body-F, Statement-F}
-use Rattle.pas_program.specs.declared.statement.Body.TheFolds.{fold_out-Arm, ind-Statement, map-Arm, map-Body, map-Statement, para-roll-Body, para-roll-Statement}
-use Rattle.pas_program.specs.declared.statement.Body.TheViews.{out-Arm, out-Statement, out-roll-Arm, roll-Arm, roll-Body, roll-Statement, roll-out-Statement}
+use Rattle.pas_program.specs.declared.statement.Body.TheViews.{out-Statement, roll-out-Statement}
 use Rattle.pas_program.specs.declared.statement.Statement.{Statement}
-use Rattle.pas_program.specs.declared.statement.WriteItem.{WriteItem}
-use Rattle.pas_program.specs.declared.statement.WriteValue.{WriteValue}
-use Rattle.pas_program.specs.declared.statement.WriteValue.TheVariants as written
-use Rattle.pas_program.specs.Each.{Rule, all_true, arm_of, each_access, each_arm, each_body, each_expr, each_item, each_statement, each_written, true_if_some}
 use Rattle.control_points.specs.declared.edge.Act.{Act}
 use Rattle.control_points.specs.declared.edge.Act.TheVariants as act
-use Rattle.control_points.specs.declared.point.PointKind.TheVariants as kind
-use Rattle.control_points.specs.Acts.{callee_passes}
-use Rattle.control_points.specs.Calls.{CallSite, Sites, access_calls, actuals_calls, expr_calls, item_calls, width_calls, written_calls}
-use Rattle.control_points.specs.Checking.{Faults, access_checks, assert_checks, assigned_checks, bounds_checks, expr_checks, selector_checks}
-use Rattle.control_points.specs.Evaluation.{access_type, var_type}
-use Rattle.control_points.specs.Edges as numbers
-use Rattle.control_points.specs.Edges.{laid_arm, laid_body, laid_statement}
-use Rattle.control_points.specs.Extents.{Extent, arm_extent, statement_extent, statements_extent, all_of}
+use Rattle.control_points.specs.Calls.{Sites, expr_calls}
+use Rattle.control_points.specs.Checking.{Faults, expr_checks}
+use Rattle.control_points.specs.Edges.{laid_arm}
+use Rattle.control_points.specs.Extents.{statement_extent, statements_extent}
 use Rattle.control_points.specs.Pieces.{Plan, procedure_call}
 use Rattle.control_points.specs.Pieces as pieces
-use Rattle.control_points.specs.Sites.{Path, Piece, Placed, Placing, Site, action, arms_from, before, body_step, both, call_checks, call_links, condition, in_order, judged, line_act, made, no_arms, nothing, point_of, statement_step, way}
-use Rattle.control_points.specs.Sites as sites
-use Rattle.control_points.proofs.Fitting.{EachSite, Passes, both_sites, no_site, rule_of_access, rule_of_actuals, rule_of_expr}
-use Rattle.control_points.proofs.Followed.{both_again}
+use Rattle.control_points.specs.Sites.{Path, Piece, Placing, Site, action, before, both, condition, in_order, line_act, no_arms, way}
 use Rattle.control_points.proofs.Inside.{statement_inside, statements_inside}
-use Rattle.control_points.proofs.Laying.{arm_piece_is, points_of_laid}
-use Rattle.control_points.proofs.Listed.{same_some}
-use Rattle.control_points.proofs.PathsActions.{AreReady, action_draws, action_many, condition_draws, reads_draw, two_ways_draw, writes_draw}
-use Rattle.control_points.proofs.PathsDrawn.{Draws, IsAt, IsReady, draws_bare, draws_both, draws_call, draws_inner, draws_judged, draws_knowing, draws_like, draws_nothing, draws_own, draws_point, draws_way, none_before, none_behind, same_behind}
-use Rattle.control_points.proofs.PathsLevels.{arm_opened, body_opened, placed, placed_arm, placed_body, placed_in, statement_opened}
+use Rattle.control_points.proofs.PathsActions.{AreReady, action_draws, action_many, condition_draws}
+use Rattle.control_points.proofs.PathsDrawn.{Draws, IsAt, draws_bare, draws_inner, draws_knowing, draws_nothing, draws_own, draws_way}
+use Rattle.control_points.proofs.PathsLevels.{placed, placed_arm, placed_body, statement_opened}
 use Rattle.control_points.proofs.PathsLists.{EachFrom, each_first, each_front, each_past}
 use Rattle.control_points.proofs.PathsMarked.{marked_many}
 use Rattle.control_points.proofs.PathsMarks.{statement_marks_are, statements_marks_are}
-use Rattle.control_points.proofs.Sized.{arm_is, arm_rule}
 
 module _ (g h : Site → ℕ) (plan : Plan) (label : ℕ → ℕ → Site) (r : ℕ) where
   abbrev pub place : Statement → Placing

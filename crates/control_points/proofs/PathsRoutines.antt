@@ -1,5 +1,5 @@
 -- All routines by paths, one after another: their points, how often each stands there, and the numbers of entries, exits and labels.
-use Rattle.std.proofs.Common.{◌≡◌, ℕ, zero, suc, ◌+◌, ◌-◌, ◌≤◌, Bool, true, ◌&&◌, cond, List, [], ◌∷◌, ◌++◌, map, length, length-append, append_assoc, take, drop, refl, sym, ap, subst, ◌∙◌, Option, Some, None, nat_eq, nat_le, arith}
+use Rattle.std.proofs.Common.{◌≡◌, ℕ, zero, suc, ◌+◌, ◌-◌, true, List, [], ◌∷◌, ◌++◌, map, length, length-append, append_assoc, take, drop, refl, sym, ap, subst, ◌∙◌, Option, Some, nat_eq, nat_le, arith}
 use Rattle.std.proofs.lemmas.Bool.{and_parts, eqb-true}
 use Rattle.std.proofs.lemmas.List.{map-append}
 use Rattle.std.proofs.lemmas.Option.{none-some}
@@ -7,8 +7,6 @@ use Rattle.std.specs.List.{slice_get, slice_index, slice_range}
 use Rattle.std.specs.Option.{option_map, unwrap_or}
 use Rattle.pas_program.specs.declared.routine.Assert.{Assert}
 use Rattle.pas_program.specs.declared.routine.Routine.{Routine}
-use Rattle.pas_program.specs.declared.statement.Arm.{Arm}
-use Rattle.pas_program.specs.declared.statement.Body.{Body}
 use Rattle.pas_program.specs.declared.statement.Body.TheOpen.{Body-F}
 use Rattle.pas_program.specs.declared.statement.Body.TheViews.{out-Body, out-Statement}
 use Rattle.pas_program.specs.declared.statement.Statement.{Statement}
@@ -16,10 +14,9 @@ use Rattle.pas_program.specs.Labels.{count_labelled}
 use Rattle.pas_program.specs.Scopes.{is_begin, is_outermost}
 use Rattle.pas_program.specs.Tables.{Tables}
 use Rattle.control_points.specs.declared.numbering.Mark.{Mark}
-use Rattle.control_points.specs.declared.point.PointKind.TheVariants as kind
 use Rattle.control_points.specs.Labelled.{label_in}
-use Rattle.control_points.specs.Marks.{Marks, part_marks, routine_marks, routines_marks, starts, statement_marks}
-use Rattle.control_points.specs.Sites.{Labels, Path, Piece, Placed, Site, block_piece, both, entry_of, exit_of, in_order, labels_in, nothing, path_of, point_at, routines_piece, statement_labels}
+use Rattle.control_points.specs.Marks.{Marks, part_marks, routine_marks, routines_marks, starts}
+use Rattle.control_points.specs.Sites.{Piece, Placed, Site, block_piece, entry_of, exit_of, in_order, nothing, path_of, point_at, routines_piece, statement_labels}
 use Rattle.control_points.specs.Wired.{points_of}
 use Rattle.control_points.proofs.Blocks.{starts_first}
 use Rattle.control_points.proofs.Listed.{same_some}
@@ -27,13 +24,11 @@ use Rattle.control_points.proofs.PathsBlocks.{IsBegin, begin_of, block, block_ma
 use Rattle.control_points.proofs.PathsLabels.{labels_counted, labels_lead}
 use Rattle.control_points.proofs.PathsLevels.{placed}
 use Rattle.control_points.proofs.PathsLists.{EachFrom, bit, each_first, each_front, each_past}
-use Rattle.control_points.proofs.PathsMarked.{IsMarked, before_at, first_of, first_site, marked_many, site_number}
-use Rattle.control_points.proofs.PathsMarks.{statements_marks_are}
+use Rattle.control_points.proofs.PathsMarked.{IsMarked, before_at, first_of, marked_many, site_number}
 use Rattle.control_points.proofs.PathsOnce.{IsOnce, at_place, next_test, once_both, once_nothing, once_within, within, within_tested}
 
 abbrev pub AllOutermost : List Routine → Type 0
 AllOutermost routines = (k : ℕ) (d : Routine) → slice_get routines k ≡ Some d → is_outermost d.body ≡ true
-
 
 pub begins : (d : Routine) → is_outermost d.body ≡ true → IsBegin (out-Body (out-Statement d.body).body)
 begins d h = begin_of (out-Body (out-Statement d.body).body) (and_parts (is_begin (out-Body (out-Statement d.body).body)) _ h).0

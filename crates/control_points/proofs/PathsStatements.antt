@@ -1,5 +1,5 @@
 -- A statement by paths draws the one by numbers.
-use Rattle.std.proofs.Common.{◌≡◌, ℕ, zero, suc, ◌+◌, ◌<◌, Bool, true, false, ◌&&◌, List, [], ◌∷◌, ◌++◌, map, length, length-append, refl, sym, ap, subst, ◌∙◌, Option, Some, None, ℤ, arith}
+use Rattle.std.proofs.Common.{◌≡◌, ℕ, zero, suc, ◌+◌, ◌<◌, Bool, true, ◌&&◌, List, [], ◌∷◌, ◌++◌, map, length, refl, sym, ap, subst, ◌∙◌, Option, Some, None, ℤ, arith}
 use Rattle.std.proofs.lemmas.Bool.{and_parts}
 use Rattle.std.proofs.lemmas.List.{length-map}
 use Rattle.std.proofs.lemmas.Option.{none-some}
@@ -12,37 +12,33 @@ use Rattle.pas_program.specs.declared.statement.Arm.{Arm}
 use Rattle.pas_program.specs.declared.statement.Body.{Body}
 use Rattle.pas_program.specs.declared.statement.Body.TheOpen.{Arm-F, Body-F, Statement-F}
 use Rattle.pas_program.specs.declared.statement.Body.TheFolds.{fold_out-Arm, ind-Statement, map-Arm, map-Body, map-Statement, para-roll-Body, para-roll-Statement}
-use Rattle.pas_program.specs.declared.statement.Body.TheViews.{out-Arm, out-Statement, out-roll-Arm, roll-Arm, roll-Body, roll-Statement, roll-out-Statement}
+use Rattle.pas_program.specs.declared.statement.Body.TheViews.{out-Arm, out-roll-Arm, roll-Arm, roll-Body, roll-Statement}
 use Rattle.pas_program.specs.declared.statement.Statement.{Statement}
 use Rattle.pas_program.specs.declared.statement.WriteItem.{WriteItem}
 use Rattle.pas_program.specs.declared.statement.WriteValue.{WriteValue}
 use Rattle.pas_program.specs.declared.statement.WriteValue.TheVariants as written
 use Rattle.pas_program.specs.Each.{Rule, all_true, arm_of, each_access, each_arm, each_body, each_expr, each_item, each_statement, each_written, true_if_some}
-use Rattle.control_points.specs.declared.edge.Act.{Act}
 use Rattle.control_points.specs.declared.edge.Act.TheVariants as act
 use Rattle.control_points.specs.declared.point.PointKind.TheVariants as kind
 use Rattle.control_points.specs.Acts.{callee_passes}
-use Rattle.control_points.specs.Calls.{CallSite, Sites, access_calls, actuals_calls, expr_calls, item_calls, width_calls, written_calls}
-use Rattle.control_points.specs.Checking.{Faults, access_checks, assert_checks, assigned_checks, bounds_checks, expr_checks, selector_checks}
+use Rattle.control_points.specs.Calls.{Sites, access_calls, actuals_calls, expr_calls, item_calls, width_calls, written_calls}
+use Rattle.control_points.specs.Checking.{access_checks, assert_checks, assigned_checks, bounds_checks, selector_checks}
 use Rattle.control_points.specs.Evaluation.{access_type, var_type}
 use Rattle.control_points.specs.Edges as numbers
 use Rattle.control_points.specs.Edges.{laid_arm, laid_body, laid_statement}
-use Rattle.control_points.specs.Extents.{Extent, arm_extent, statement_extent, statements_extent, all_of}
+use Rattle.control_points.specs.Extents.{Extent, arm_extent, statement_extent}
 use Rattle.control_points.specs.Pieces.{Plan, procedure_call}
 use Rattle.control_points.specs.Pieces as pieces
 use Rattle.control_points.specs.Sites.{Path, Piece, Placed, Placing, Site, action, arms_from, before, body_step, both, call_checks, call_links, condition, in_order, judged, line_act, made, no_arms, nothing, point_of, statement_step, way}
 use Rattle.control_points.specs.Sites as sites
 use Rattle.control_points.proofs.Fitting.{EachSite, Passes, both_sites, no_site, rule_of_access, rule_of_actuals, rule_of_expr}
 use Rattle.control_points.proofs.Followed.{both_again}
-use Rattle.control_points.proofs.Inside.{statement_inside, statements_inside}
 use Rattle.control_points.proofs.Laying.{arm_piece_is, points_of_laid}
 use Rattle.control_points.proofs.Listed.{same_some}
 use Rattle.control_points.proofs.PathsActions.{AreReady, action_draws, action_many, condition_draws, reads_draw, two_ways_draw, writes_draw}
-use Rattle.control_points.proofs.PathsDrawn.{Draws, IsAt, IsReady, draws_bare, draws_both, draws_call, draws_inner, draws_judged, draws_knowing, draws_like, draws_nothing, draws_own, draws_point, draws_way, none_before, none_behind, same_behind}
-use Rattle.control_points.proofs.PathsLevels.{arm_opened, body_opened, placed, placed_arm, placed_body, placed_in, statement_opened}
-use Rattle.control_points.proofs.PathsLists.{EachFrom, each_first, each_front, each_past}
-use Rattle.control_points.proofs.PathsMarked.{marked_many}
-use Rattle.control_points.proofs.PathsMarks.{statement_marks_are, statements_marks_are}
+use Rattle.control_points.proofs.PathsDrawn.{Draws, IsAt, IsReady, draws_both, draws_call, draws_inner, draws_judged, draws_knowing, draws_like, draws_nothing, draws_point, draws_way, none_before, none_behind, same_behind}
+use Rattle.control_points.proofs.PathsLevels.{body_opened, placed, placed_arm, placed_body, placed_in, statement_opened}
+use Rattle.control_points.proofs.PathsLists.{each_first, each_front, each_past}
 use Rattle.control_points.proofs.Sized.{arm_is, arm_rule}
 use Rattle.control_points.proofs.PathsParts.{bare_body, condition_body, entered_body, no_arms_draw, no_arms_many, order_first, own_body, same_line, start_of, statement_first, statement_many, statements_many}
 
@@ -211,7 +207,7 @@ module _ (g h : Site → ℕ) (plan : Plan) (label : ℕ → ℕ → Site) (r : 
       let many = some_of (each_statement q) (statements body) (some _ p.0) in
       from_body (Body-F.Begin (statements body) end) at path next here n
       (subst (λ s. Draws g h (both (way (start_of g h plan label r path) act.Skip (start_of g h plan label r (path ++ 0 ∷ []))) (ordered 0 (statements body) path next)) (here + 1)
-          (pieces.both pieces.nothing (pieces.both (pieces.way s act.Skip (s + 1)) (numbers.in_order plan (map (laid_statement plan) (statements body)) (s + 1) n)))) (same_here here)
+      (pieces.both pieces.nothing (pieces.both (pieces.way s act.Skip (s + 1)) (numbers.in_order plan (map (laid_statement plan) (statements body)) (s + 1) n)))) (same_here here)
       (entered_body g h plan label r path (ordered 0 (statements body) path next) here _ e
       (λ known. (order_first g h plan label r 0 (statements body) path next (here + 1) many known, order_draws 0 body path next (here + 1) n p.1 o.1 f))))
   of_body (Body-F.If cond first None) a b at path next here n e f =
@@ -225,7 +221,8 @@ module _ (g h : Site → ℕ) (plan : Plan) (label : ℕ → ℕ → Site) (r : 
       from_body (Body-F.If cond first.0 None) at path next here n
       (condition_body g h plan label r path cond (start_of g h plan label r (path ++ 0 ∷ [])) next (both inside nothing) here k n _ (expr_ready cond p.0) e
       (λ known. (
-        statement_first g h plan label r first.0 (path ++ 0 ∷ []) next k (each_front (IsAt g h) k inside.points [] known), f,
+        statement_first g h plan label r first.0 (path ++ 0 ∷ []) next k (each_front (IsAt g h) k inside.points [] known),
+        f,
         draws_both g h inside nothing k (k + length inside.points) _ pieces.nothing refl (first.1 p1.0 o1.0 (path ++ 0 ∷ []) next k n f) (draws_nothing g h _),
       )))
   of_body (Body-F.If cond first (Some second)) a b at path next here n e f =
@@ -288,12 +285,11 @@ module _ (g h : Site → ℕ) (plan : Plan) (label : ℕ → ℕ → Site) (r : 
       let long : k ≡ here + 1 + length front.points = ap (λ j. here + 1 + j) (points_of_laid plan (statements body) ∙ sym (statements_many g h plan label r 0 (statements body) path last)) in
       from_body (Body-F.Repeat (statements body) until cond) at path next here n
       (subst (λ s. Draws g h (both (way (start_of g h plan label r path) act.Skip inside) (both front (both (point_of last until) test))) (here + 1)
-          (pieces.both pieces.nothing (pieces.both (pieces.way s act.Skip (s + 1)) (pieces.both (numbers.in_order plan (map (laid_statement plan) (statements body)) (here + 1) k) tested)))) (same_here here)
+      (pieces.both pieces.nothing (pieces.both (pieces.way s act.Skip (s + 1)) (pieces.both (numbers.in_order plan (map (laid_statement plan) (statements body)) (here + 1) k) tested)))) (same_here here)
       (entered_body g h plan label r path (both front (both (point_of last until) test)) here _ e
       (λ known.
       let first : g inside ≡ here + 1 = order_first g h plan label r 0 (statements body) path last (here + 1) many (each_front (IsAt g h) (here + 1) front.points (record { site = last; at = until } ∷ test.points) known) in
-      let there : g last ≡ k = each_first (IsAt g h) k (record { site = last; at = until }) test.points (each_past (IsAt g h) (here + 1) k front.points (record { site = last; at = until } ∷ test.points) long known) in
-      (
+      let there : g last ≡ k = each_first (IsAt g h) k (record { site = last; at = until }) test.points (each_past (IsAt g h) (here + 1) k front.points (record { site = last; at = until } ∷ test.points) long known) in (
         first,
         draws_both g h front (both (point_of last until) test) (here + 1) k _ tested long (order_draws 0 body path last (here + 1) k p1.1 o1.1 there)
             (draws_like g h (both (point_of last until) test) k (pieces.both pieces.nothing tested) tested (none_before tested)

@@ -1,21 +1,18 @@
 -- The points, edges and checks of a program by numbers are those by paths.
-use Rattle.std.proofs.Common.{◌≡◌, ℕ, zero, suc, ◌+◌, ◌-◌, ◌<◌, ◌≤◌, Bool, true, ◌&&◌, List, [], ◌∷◌, ◌++◌, map, length, length-append, refl, sym, ap, subst, ◌∙◌, Option, Some, None, nat_eq, nat_le, arith}
+use Rattle.std.proofs.Common.{◌≡◌, ℕ, suc, ◌+◌, ◌-◌, ◌<◌, ◌≤◌, Bool, true, List, [], ◌∷◌, map, length, length-append, refl, sym, ap, subst, ◌∙◌, Option, Some, None, nat_eq, nat_le, arith}
 use Rattle.std.proofs.lemmas.Bool.{and_from, and_parts, ltb-true, true≢false}
 use Rattle.std.proofs.lemmas.List.{length-map}
-use Rattle.std.specs.List.{position, slice_get, slice_index, slice_range}
+use Rattle.std.specs.List.{position, slice_get, slice_index}
 use Rattle.std.specs.Option.{unwrap_or}
 use Rattle.pas_program.specs.declared.program.Program.{Program}
 use Rattle.pas_program.specs.declared.routine.Routine.{Routine}
 use Rattle.pas_program.specs.declared.statement.Body.TheOpen.{Body-F}
 use Rattle.pas_program.specs.declared.statement.Body.TheViews.{out-Body, out-Statement, roll-Body, roll-out-Body}
 use Rattle.pas_program.specs.Checked.{tables}
-use Rattle.pas_program.specs.Each.{Rule, all_true, each_statement}
+use Rattle.pas_program.specs.Each.{Rule, each_statement}
 use Rattle.pas_program.specs.Labels.{LabelsStand, count_labelled, label_rule}
 use Rattle.pas_program.specs.Scopes.{is_outermost, scope_rule}
 use Rattle.pas_program.specs.Tables.{Head, holds_of, is_around, is_callable, head_of}
-use Rattle.control_points.specs.declared.check.Check.{Check}
-use Rattle.control_points.specs.declared.edge.Act.{Act}
-use Rattle.control_points.specs.declared.edge.Edge.{Edge}
 use Rattle.control_points.specs.declared.flow.Flow.{Flow}
 use Rattle.control_points.specs.declared.point.PointKind.{PointKind}
 use Rattle.control_points.specs.declared.point.PointKind.TheVariants as kind
@@ -26,14 +23,14 @@ use Rattle.control_points.specs.Extents.{statements_extent}
 use Rattle.control_points.specs.Labelled.{label_in}
 use Rattle.control_points.specs.Marks.{mark, part_marks, routine_marks, routines_marks, starts, statements_marks}
 use Rattle.control_points.specs.Pieces.{Plan}
-use Rattle.control_points.specs.Sites.{Deed, IsFlowOf, Judged, Link, Piece, Placed, Site, act_of, block_piece, calls, check_at, does, edge_at, entry_of, exit_of, is_call, is_call_from, label_site, labels_of_body, path_of, point_number, program_piece, returns, routines_piece, same_kind, same_path, same_site}
+use Rattle.control_points.specs.Sites.{Deed, IsFlowOf, Link, Piece, Placed, Site, act_of, block_piece, calls, does, edge_at, is_call_from, label_site, labels_of_body, path_of, point_number, program_piece, returns, routines_piece, same_kind, same_path, same_site}
 use Rattle.control_points.specs.Wired.{points_of}
-use Rattle.control_points.proofs.Blocks.{block_size, starts_first}
+use Rattle.control_points.proofs.Blocks.{starts_first}
 use Rattle.control_points.proofs.Inside.{nat_eq_self, statements_inside}
 use Rattle.control_points.proofs.Listed.{found_of}
 use Rattle.control_points.proofs.Opened.{rule_at}
-use Rattle.control_points.proofs.PathsBlocks.{block, block_draws}
-use Rattle.control_points.proofs.PathsDrawn.{Draws, IsAt, IsCall, IsReady, act_by, check_by, draws_both, draws_nothing, edge_by}
+use Rattle.control_points.proofs.PathsBlocks.{block_draws}
+use Rattle.control_points.proofs.PathsDrawn.{Draws, IsCall, IsReady, act_by, draws_both, draws_nothing, edge_by}
 use Rattle.control_points.proofs.PathsLists.{EachFrom, only_position, times}
 use Rattle.control_points.proofs.PathsMarked.{before_at}
 use Rattle.control_points.proofs.PathsOnce.{IsOnce, bit_small, once_within}
