@@ -1,6 +1,6 @@
 -- The headings of a block, planned from the last to the first.
 use Rattle.std.proofs.Common.{◌≡◌, ℕ, ◌+◌, ◌<◌, ◌≤◌, List, [], ◌∷◌, ◌++◌, append_assoc, drop, get_or, length, map, reverse, Option, Some, cond, refl, sym, ap, ◌∙◌, option_map, bytes_eq, Vec, Global}
-use Rattle.std.proofs.lemmas.List.{drop_all, map-append, reverse-append}
+use Rattle.std.proofs.lemmas.List.{append-nil, drop_all, map-append, reverse-append}
 use Rattle.std.specs.List.{sum}
 use Rattle.std.specs.Map.{lookup, KeepsOthers}
 use Rattle.std.specs.Prelude.{fold}
@@ -8,11 +8,13 @@ use Rattle.pas_tree.specs.declared.block.Block.{Block}
 use Rattle.pas_tree.specs.declared.block.Routine.{Routine}
 use Rattle.pas_tree.specs.declared.block.RoutineBody.TheFolds.{fold_out-Block}
 use Rattle.pas_tree.specs.declared.block.RoutineBody.TheViews.{out-Block}
+use Rattle.pas_check.specs.declared.plan.Bodies.{Bodies}
 use Rattle.pas_check.specs.declared.plan.Body.{Body}
+use Rattle.pas_check.specs.declared.plan.Plans.{Plans}
 use Rattle.pas_check.specs.Block.{block_ends, body_ends, ends_inside, ends_of, routine_ends}
 use Rattle.pas_check.specs.Blocks.{block_of}
 use Rattle.pas_check.specs.Names.{Name}
-use Rattle.pas_check.specs.Plans.{block_at, block_by, numbers_from, own_number}
+use Rattle.pas_check.specs.Plans.{ArePlanned, block_at, block_by, numbers_from, own_number}
 use Rattle.pas_check.proofs.ByName.{bytes_swap, changed_at, map_cond}
 use Rattle.pas_check.proofs.Passing.{drop_next}
 
@@ -78,6 +80,9 @@ numbers_next routines k r old new whole before number ends next so h e is added 
     ∙ ap (λ ns. ns ++ numbers_from (before + ends_of r) rest) (sym added)
     ∙ ap (λ m. new ++ numbers_from m rest) (ap (λ n. before + n) (sym same) ∙ sym more)
 
+pub numbers_end : (routines : List Routine) (k : ℕ) (numbers whole : List ℕ) (before : ℕ) → whole ≡ numbers ++ numbers_from before (drop k routines) → length routines ≤ k → numbers ≡ whole
+numbers_end routines k numbers whole before so h = sym (append-nil numbers) ∙ sym (ap (λ rs. numbers ++ numbers_from before rs) (drop_all k routines h)) ∙ sym so
+
 -- the routines that have ended after these
 abbrev pub ended_after : ℕ → List Routine → ℕ
 ended_after first [] = first
@@ -90,3 +95,9 @@ ended_last first (x ∷ rs) r = ended_last (first + ends_of x) rs r
 pub numbers_last : (first : ℕ) (rs : List Routine) (r : Routine) → numbers_from first (rs ++ r ∷ []) ≡ numbers_from first rs ++ own_number (ended_after first rs) (block_of r) ∷ []
 numbers_last first [] r = refl
 numbers_last first (x ∷ rs) r = ap (λ ns. own_number first (block_of x) ∷ ns) (numbers_last (first + ends_of x) rs r)
+
+-- where the headings left are planned from the last to the first
+pub record AreLeft (text : List ℕ) (bodies : Bodies) (plans : Plans) (first : ℕ) (routines rest : List Routine) (numbers : List ℕ) : Type 0 where
+  pub whole : rest ++ drop (length rest) routines ≡ routines
+  pub done : ArePlanned text bodies plans (ended_after first rest) (drop (length rest) routines)
+  pub left : numbers ≡ numbers_from first rest
