@@ -1,8 +1,9 @@
 -- The headings of a block, planned from the last to the first.
-use Rattle.std.proofs.Common.{◌≡◌, ℕ, ◌+◌, ◌<◌, ◌≤◌, Bool, true, false, List, [], ◌∷◌, ◌++◌, append_assoc, drop, get_or, length, map, reverse, Option, Some, None, Result, Ok, Err, cond, true≢false, if◌then◌else◌, refl, sym, ap, ◌∙◌, option_map, bytes_eq, Vec, Global}
-use Rattle.std.proofs.lemmas.List.{append-nil, drop_all, map-append, reverse-append}
+use Rattle.std.proofs.Common.{◌≡◌, ℕ, ◌+◌, ◌<◌, ◌≤◌, Bool, true, false, List, [], ◌∷◌, ◌++◌, append_assoc, arith, drop, get_or, length, map, reverse, Option, Some, None, Result, Ok, Err, cond, true≢false, if◌then◌else◌, refl, sym, ap, ◌∙◌, option_map, bytes_eq, Vec, Global}
+use Rattle.std.proofs.lemmas.List.{append-nil, drop_all, length-append, map-append, reverse-append, reverse-reverse}
 use Rattle.std.specs.Bool.{beq}
 use Rattle.std.specs.List.{sum}
+use Rattle.std.specs.Option.{option_to_list}
 use Rattle.std.specs.Map.{lookup, KeepsOthers}
 use Rattle.std.specs.Prelude.{◌&&◌, OnOk, fold, is_some, not}
 use Rattle.std.specs.Result.{is_ok}
@@ -172,3 +173,19 @@ module _ (text : List ℕ) (bodies : Bodies) (old new : Plans) (r : Routine) (nu
         lacking = ap lacking_by (lacks ∙ ap (λ b. cond b old.lacking (Some (out-Routine r).name.start)) has)
             ∙ lacking_next (block_of r) (is_some (body_after text r 0 rest)) old.lacking (out-Routine r).name.start (bodies_given text rest) none kept.lacking;
       }
+
+-- ---- all headings
+
+-- the last of some numbers is taken from them
+pub popped : (xs ys : List ℕ) (x : ℕ) (o : Option ℕ) (all : List ℕ) → all ≡ xs ++ x ∷ [] → all ≡ ys ++ option_to_list o → (0 < length all → is_some o ≡ true) → (ys ≡ xs) × (o ≡ Some x)
+popped xs ys x None all whole parts some = absurd (true≢false (sym (some (omega (arith, ap length whole, length-append xs (x ∷ []))))))
+popped xs ys x (Some y) all whole parts some =
+    let turned : x ∷ reverse xs ≡ y ∷ reverse ys = sym (reverse-append xs (x ∷ [])) ∙ ap reverse (sym whole ∙ parts) ∙ reverse-append ys (y ∷ []) in
+    let others : reverse ys ≡ reverse xs = cc turned in
+    let one : Some y ≡ Some x = cc turned in
+    (sym (reverse-reverse ys) ∙ ap reverse others ∙ reverse-reverse xs, one)
+
+pub all_planned : (text : List ℕ) (bodies : Bodies) (plans : Plans) (first : ℕ) (routines rest : List Routine) (numbers : List ℕ) → AreLeft text bodies plans first routines rest numbers → length rest ≡ 0
+    → ArePlanned text bodies plans first routines
+all_planned text bodies plans first routines [] numbers left none = left.done
+all_planned text bodies plans first routines (r ∷ rest) numbers left none = absurd (omega arith)
