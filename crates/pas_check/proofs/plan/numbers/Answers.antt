@@ -1,4 +1,4 @@
-use Rattle.std.proofs.Common.{◌∙◌, ap, sym, ◌++◌}
+use Rattle.std.proofs.Common.{ap, sym, ◌++◌}
 use Rattle.pas_check.specs.Plans.{numbers_from}
 use Rattle.pas_check.proofs.Plans.{numbers_end, numbers_next}
 use Rattle.pas_check.proofs.plan.numbers.Goals as goal

@@ -1,5 +1,4 @@
-use Rattle.std.proofs.Common.{◌≡◌, ◌∙◌, rules}
-use Rattle.std.specs.Str.{str_to_ascii_lowercase}
+use Rattle.std.proofs.Common.{◌≡◌, rules}
 use Rattle.pas_check.specs.Names.{name_at}
 use Rattle.pas_check.proofs.Plans.{passed_on, word_planned}
 use Rattle.pas_check.proofs.seen.Seen.plan.Goals as goal

@@ -1,11 +1,10 @@
-use Rattle.std.proofs.Common.{◌≡◌, ℕ, ◌+◌, ◌<◌, List, [], ◌∷◌, ◌++◌, drop, length, reverse, map, append-nil, arith, le_refl, rules, refl, sym, ap, subst, ◌∙◌}
+use Rattle.std.proofs.Common.{◌≡◌, ℕ, List, [], ◌∷◌, ◌++◌, drop, length, reverse, map, append-nil, arith, le_refl, rules, refl, sym, ap, subst, ◌∙◌}
 use Rattle.std.proofs.lemmas.List.{drop_all}
 use Rattle.std.specs.Option.{unwrap_or}
 use Rattle.pas_tree.specs.declared.block.Routine.{Routine}
-use Rattle.pas_check.specs.Block.{ends_of}
 use Rattle.pas_check.specs.Blocks.{block_of, plan_of}
 use Rattle.pas_check.specs.Plans.{ArePlanned, numbers_from, own_number}
-use Rattle.pas_check.proofs.Plans.{AreLeft, all_planned, before_last, ended_after, ended_last, from_last, map_reverse, numbers_last, popped}
+use Rattle.pas_check.proofs.Plans.{all_planned, before_last, ended_after, ended_last, from_last, map_reverse, numbers_last, popped}
 use Rattle.pas_check.proofs.seen.Seen.plans.Goals as goal
 
 pub loop-routine-init : goal.loop-routine-init
