@@ -19,7 +19,7 @@ after_again a b c =
     ap (λ es. record { edges = es; checks = (a.checks ++ b.checks) ++ c.checks }) (append_assoc a.edges b.edges c.edges)
     ∙ ap (λ cs. record { edges = a.edges ++ (b.edges ++ c.edges); checks = cs }) (append_assoc a.checks b.checks c.checks)
 
-both_again : (p q r : Piece) (n : ℕ) → both (both p q) r n ≡ both p (both q r) n
+pub both_again : (p q r : Piece) (n : ℕ) → both (both p q) r n ≡ both p (both q r) n
 both_again p q r n =
     let m = n + length (p n).edges in
     let e : n + length ((p n).edges ++ (q m).edges) ≡ m + length (q m).edges = omega (arith, length-append (p n).edges (q m).edges) in

@@ -22,6 +22,7 @@ mod judging;
 mod labels;
 mod laws;
 mod numbering;
+mod paths;
 mod point;
 mod scene;
 mod wiring;
@@ -38,4 +39,5 @@ pub use laws::{
     only_a_case_may_have_no_action, runs_are_valid, spots_exist, start_is_valid,
     values_lie_in_their_hosts, variables_exist,
 };
+pub use paths::{flows_are_those_of_paths, paths_say_the_same_as_numbers};
 pub use point::{Point, PointKind};

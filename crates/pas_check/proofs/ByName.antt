@@ -1,11 +1,8 @@
--- Values by names, and headings that wait.
+-- Values by names.
 use Rattle.std.proofs.Common.{◌≡◌, ℕ, Bool, true, false, cond, not, true≢false, List, [], ◌∷◌, refl, sym, ap, ◌∙◌, Option, Some, option_map, bytes_eq, Vec, Global}
 use Rattle.std.proofs.lemmas.Slice.Eq.{bytes_eq-Decides}
 use Rattle.std.specs.Bool.{beq}
 use Rattle.std.specs.Map.{lookup, KeepsOthers}
-use Rattle.pas_check.specs.declared.heading.Opened.{Opened}
-use Rattle.pas_check.specs.Blocks.{opening_for, waits, with_word}
-use Rattle.pas_check.specs.Headings.{opening_of}
 use Rattle.pas_check.specs.Names.{Name}
 
 apart : (a b c : List ℕ) → bytes_eq a b ≡ false → a ≡ c → bytes_eq b c ≡ false
@@ -52,22 +49,3 @@ module _ {V : Type 0} (name : Name) (old new : List (Vec ℕ Global × V)) (w : 
 
   pub changed_at : lookup (λ (k : Vec ℕ Global). bytes_eq other k.items) new ≡ cond (bytes_eq name other) w (lookup (λ (k : Vec ℕ Global). bytes_eq other k.items) old)
   changed_at = by_test (bytes_eq name other) refl
-
-opening_found : (name : Name) (es : List (Vec ℕ Global × Opened)) → opening_for name es ≡ option_map opening_of (lookup (λ (k : Vec ℕ Global). bytes_eq name k.items) es)
-opening_found name [] = refl
-opening_found name (e ∷ es) =
-    ap (cond (bytes_eq name e.0.items) (Some (opening_of e.1))) (opening_found name es)
-    ∙ sym (map_cond opening_of (bytes_eq name e.0.items) (Some e.1) (lookup (λ (k : Vec ℕ Global). bytes_eq name k.items) es))
-
-pub awaited : (function : Bool) (name : Name) (es : List (Vec ℕ Global × Opened)) (o : Option Opened) → o ≡ lookup (λ (k : Vec ℕ Global). bytes_eq name k.items) es → with_word function (opening_for name es) ≡ with_word function (option_map opening_of o)
-awaited function name es o e = ap (with_word function) (opening_found name es ∙ ap (option_map opening_of) (sym e))
-
-pub waits_after : (name : Name) (old new : List (Vec ℕ Global × Opened)) (w : Option Opened) → lookup (λ (k : Vec ℕ Global). bytes_eq name k.items) new ≡ w
-    → KeepsOthers (λ (x y : Vec ℕ Global). bytes_eq x.items y.items) (λ (k : Vec ℕ Global). bytes_eq name k.items) old new → (λ (n : Name). opening_for n new) ≡ waits (λ (n : Name). opening_for n old) name (option_map opening_of w)
-waits_after name old new w here others = λ i n. at_name n i
-  where
-    at_name : (n : Name) → opening_for n new ≡ cond (bytes_eq name n) (option_map opening_of w) (opening_for n old)
-    at_name n =
-        opening_found n new ∙ ap (option_map opening_of) (changed_at name old new w here others n)
-        ∙ map_cond opening_of (bytes_eq name n) w (lookup (λ (k : Vec ℕ Global). bytes_eq n k.items) old)
-        ∙ ap (cond (bytes_eq name n) (option_map opening_of w)) (sym (opening_found n old))

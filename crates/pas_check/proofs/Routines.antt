@@ -1,6 +1,7 @@
 -- Headings with their blocks, one after the other.
-use Rattle.std.proofs.Common.{◌≡◌, ℕ, ◌+◌, ◌<◌, ◌≤◌, ◌↔◌, Bool, true, false, List, [], ◌∷◌, ◌++◌, length, arith, get_or, drop, map, reverse, codes, Option, Some, None, Ok, Err, refl, sym, ap, subst, ◌∙◌}
+use Rattle.std.proofs.Common.{◌≡◌, ℕ, ◌+◌, ◌<◌, ◌≤◌, ◌↔◌, Bool, true, false, cond, List, [], ◌∷◌, ◌++◌, length, arith, get_or, drop, map, reverse, codes, Option, Some, None, Ok, Err, Vec, Global, refl, sym, ap, subst, ◌∙◌}
 use Rattle.std.specs.Prelude.{not}
+use Rattle.std.specs.Map.{KeepsOthers, lookup}
 use Rattle.std.specs.Str.{bytes_eq, str_to_ascii_lowercase}
 use Rattle.std.proofs.lemmas.Slice.Eq.{bytes_eq-Decides}
 use Rattle.px_base.specs.declared.place.Span.{Span}
@@ -11,14 +12,18 @@ use Rattle.pas_tree.specs.declared.block.RoutineBody.TheViews.{out-Routine}
 use Rattle.pas_check.specs.declared.fault.Fault.{Fault}
 use Rattle.pas_check.specs.declared.fault.Fault.TheVariants.{Broken}
 use Rattle.pas_check.specs.declared.fault.Rule.TheVariants as rule
+use Rattle.pas_check.specs.declared.heading.Opened.{Opened}
 use Rattle.pas_check.specs.declared.plan.Plan.{Plan}
+use Rattle.pas_check.specs.declared.seen.Made.{Made}
 use Rattle.pas_check.specs.declared.seen.Seen.{Seen}
-use Rattle.pas_check.specs.Blocks.{OpenMay, RoutineMay, RoutinesMay, Standing, awaited, awaited_block, bodies_given, forwarded, goes_on, in_heading, is_forward, lacking_by, later_of, no_more, opened, planned, standing, stops_in, waits, waits_for, with_word}
-use Rattle.pas_check.specs.Headings.{HeadingMay, Opening}
+use Rattle.pas_check.specs.Blocks.{OpenMay, RoutineMay, RoutinesMay, Standing, awaited, awaited_block, bodies_given, forwarded, goes_on, in_heading, is_forward, lacking_by, later_of, no_more, opened, opening_for, planned, standing, stops_in, waits, waits_for, with_word}
+use Rattle.pas_check.specs.Headings.{HeadingMay}
 use Rattle.pas_check.specs.Names.{Name, name_at, spelling}
 use Rattle.pas_check.specs.Outcome.{Outcome, ◌>>=◌, unless}
 use Rattle.pas_check.specs.Routine.{repeated_heading}
 use Rattle.pas_check.specs.Sight.{Sight, sight}
+use Rattle.pas_check.specs.Stage.{Stage}
+use Rattle.pas_check.proofs.ByName.{changed_at}
 use Rattle.pas_check.proofs.Declarations.{last_is}
 use Rattle.pas_check.proofs.Passing.{drop_next}
 
@@ -55,15 +60,35 @@ module _ (text : List ℕ) (routines : List Routine) (k : ℕ) where
       pub routines_stop : (s : Standing) (f : Fault) → RoutineMay s r (later_of p) (Err f) → RoutinesMay s (planned text (drop k routines)) (Err f)
       routines_stop s f now = subst (λ ps. RoutinesMay s ps (Err f)) (sym planned_next) (stops_in (with_its s (Err f) now))
 
--- the same where the plans are made
-module _ (c : Seen) (routines others : List Routine) (same : routines ≡ others) where
-  pub plans_theirs : (plans : List Plan) → AreTheirs c.text.now plans routines → AreTheirs (sight c).text plans others
-  unfolding sight
-  plans_theirs plans h = subst (λ rs. AreTheirs c.text.now plans rs) same h
+-- a name is spelled
+pub where_spelled : (v : Sight) (new old : Made) → new ≡ record old { lower = new.lower } → ◌≡◌ {A = Stage} (record { seen = v; built = new.built }) (record { seen = v; built = old.built })
+where_spelled v new old kept = ap (λ (m : Made). record { seen = v; built = m.built }) kept
 
-  pub lacking_theirs : (lacking : Option ℕ) → lacking_by lacking ≡ bodies_given c.text.now routines → lacking_by lacking ≡ bodies_given (sight c).text others
+-- the same where the plans are made
+module _ (c : Seen) (routines : List Routine) where
+  pub plans_theirs : (plans : List Plan) → AreTheirs c.text.now plans routines → AreTheirs (sight c).text plans routines
   unfolding sight
-  lacking_theirs lacking h = h ∙ ap (bodies_given c.text.now) same
+  plans_theirs plans h = h
+
+  pub lacking_theirs : (others : List Routine) → routines ≡ others → (lacking : Option ℕ) → lacking_by lacking ≡ bodies_given c.text.now routines → lacking_by lacking ≡ bodies_given (sight c).text others
+  unfolding sight
+  lacking_theirs others same lacking h = h ∙ ap (bodies_given c.text.now) same
+
+-- ---- headings that wait
+
+opening_found : (name : Name) (es : List (Vec ℕ Global × Opened)) → opening_for name es ≡ lookup (λ (k : Vec ℕ Global). bytes_eq name k.items) es
+opening_found name [] = refl
+opening_found name (e ∷ es) = ap (cond (bytes_eq name e.0.items) (Some e.1)) (opening_found name es)
+
+pub awaited_by : (function : Bool) (name : Name) (es : List (Vec ℕ Global × Opened)) (o : Option Opened) → o ≡ lookup (λ (k : Vec ℕ Global). bytes_eq name k.items) es → with_word function (opening_for name es) ≡ with_word function o
+awaited_by function name es o e = ap (with_word function) (opening_found name es ∙ sym e)
+
+pub waiting_after : (name : Name) (old new : List (Vec ℕ Global × Opened)) (w : Option Opened) → lookup (λ (k : Vec ℕ Global). bytes_eq name k.items) new ≡ w
+    → KeepsOthers (λ (x y : Vec ℕ Global). bytes_eq x.items y.items) (λ (k : Vec ℕ Global). bytes_eq name k.items) old new → (λ (n : Name). opening_for n new) ≡ waits (λ (n : Name). opening_for n old) name w
+waiting_after name old new w here others = λ i n. at_name n i
+  where
+    at_name : (n : Name) → opening_for n new ≡ cond (bytes_eq name n) w (opening_for n old)
+    at_name n = opening_found n new ∙ changed_at name old new w here others n ∙ ap (cond (bytes_eq name n) w) (sym (opening_found n old))
 
 -- ---- a heading with a word
 
@@ -76,34 +101,37 @@ forward_is text word bs b spelled test = ap (λ s. bytes_eq (str_to_ascii_lowerc
     by false true test is = sym (test.1 ((bytes_eq-Decides (str_to_ascii_lowercase bs) (codes "forward")).0 is))
     by false false test is = refl
 
-module _ (s : Standing) (r : Routine) (word : Span) (h : Sight × Opening) where
-  pub word_refused : (f : Fault) → is_forward h.0.text word ≡ false → f ≡ Broken rule.Kind word.start → forwarded s r word h ≡ Err f
-  word_refused f other is = ap (λ b. unless {A = Standing} (not b) rule.Kind word.start (Ok (standing h.0 (waits s.waiting (name_at h.0.text (out-Routine r).name) (Some h.1))))) other ∙ ap Err (sym is)
+module _ (s : Standing) (r : Routine) (word : Span) (h : Stage × Opened) where
+  pub word_refused : (f : Fault) → is_forward h.0.seen.text word ≡ false → f ≡ Broken rule.Kind word.start → forwarded s r word h ≡ Err f
+  word_refused f other is = ap (λ b. unless {A = Standing} (not b) rule.Kind word.start (Ok (standing h.0 (waits s.waiting (name_at h.0.seen.text (out-Routine r).name) (Some h.1))))) other ∙ ap Err (sym is)
 
-  pub word_waits : (w : Name → Option Opening) (name : Name) → is_forward h.0.text word ≡ true → name ≡ name_at h.0.text (out-Routine r).name → w ≡ waits s.waiting name (Some h.1) → forwarded s r word h ≡ Ok (standing h.0 w)
-  word_waits w name right spelled is =
-      ap (λ b. unless {A = Standing} (not b) rule.Kind word.start (Ok (standing h.0 (waits s.waiting (name_at h.0.text (out-Routine r).name) (Some h.1))))) right
-      ∙ ap (λ n. Ok (standing h.0 (waits s.waiting n (Some h.1)))) (sym spelled) ∙ ap (λ u. Ok (standing h.0 u)) (sym is)
+  pub word_waits : (x : Stage) (w : Name → Option Opened) (name : Name) → x ≡ h.0 → is_forward h.0.seen.text word ≡ true → name ≡ name_at h.0.seen.text (out-Routine r).name → w ≡ waits s.waiting name (Some h.1) → forwarded s r word h ≡ Ok (standing x w)
+  word_waits x w name kept right spelled is =
+      ap (λ b. unless {A = Standing} (not b) rule.Kind word.start (Ok (standing h.0 (waits s.waiting (name_at h.0.seen.text (out-Routine r).name) (Some h.1))))) right
+      ∙ ap (λ n. Ok (standing h.0 (waits s.waiting n (Some h.1)))) (sym spelled) ∙ ap (λ u. Ok (standing h.0 u)) (sym is) ∙ ap (λ y. Ok (standing y w)) (sym kept)
 
 -- ---- a heading with its block
 
-module _ (s : Standing) (r : Routine) (b : Block) (name : Name) (spelled : name ≡ name_at s.seen.text (out-Routine r).name) where
-  waits_by : (o : Option Opening) → o ≡ with_word (out-Routine r).function (s.waiting name) → waits_for s r ≡ o
+module _ (s : Standing) (r : Routine) (b : Block) (number : ℕ) (x : Stage) (kept : x ≡ s.at) (name : Name) (spelled : name ≡ name_at s.at.seen.text (out-Routine r).name) where
+  waits_by : (o : Option Opened) → o ≡ with_word (out-Routine r).function (s.waiting name) → waits_for s r ≡ o
   waits_by o is = ap (λ n. with_word (out-Routine r).function (s.waiting n)) (sym spelled) ∙ sym is
 
-  module _ (p : Opening) (taken : Some p ≡ with_word (out-Routine r).function (s.waiting name)) where
-    pub repeated_fails : (f : Fault) → repeated_heading (out-Routine r) ≡ Err f → OpenMay s r b (Err f)
-    repeated_fails f is = awaited (waits_by (Some p) taken) (ap (λ (o : Outcome (Unit {0})). o >>= (λ done. Ok (standing s.seen (waits s.waiting (name_at s.seen.text (out-Routine r).name) None), p))) is)
+  module _ (p : Opened) (taken : Some p ≡ with_word (out-Routine r).function (s.waiting name)) where
+    pub repeated_fails : (f : Fault) → repeated_heading (out-Routine r) ≡ Err f → OpenMay s r b number (Err f)
+    repeated_fails f is = awaited (waits_by (Some p) taken) (ap (λ (o : Outcome (Unit {0})). o >>= (λ done. Ok (standing s.at (waits s.waiting (name_at s.at.seen.text (out-Routine r).name) None), p))) is)
 
-    pub repeated_opens : (w : Name → Option Opening) → repeated_heading (out-Routine r) ≡ Ok tt → w ≡ waits s.waiting name None → OpenMay s r b (Ok (standing s.seen w, p))
+    pub repeated_opens : (w : Name → Option Opened) → repeated_heading (out-Routine r) ≡ Ok tt → w ≡ waits s.waiting name None → OpenMay s r b number (Ok (standing x w, p))
     repeated_opens w is out =
         awaited (waits_by (Some p) taken)
-        (ap (λ (o : Outcome (Unit {0})). o >>= (λ done. Ok (standing s.seen (waits s.waiting (name_at s.seen.text (out-Routine r).name) None), p))) is
-        ∙ ap (λ n. Ok (standing s.seen (waits s.waiting n None), p)) (sym spelled) ∙ ap (λ u. Ok (standing s.seen u, p)) (sym out))
+        (ap (λ (o : Outcome (Unit {0})). o >>= (λ done. Ok (standing s.at (waits s.waiting (name_at s.at.seen.text (out-Routine r).name) None), p))) is
+        ∙ ap (λ n. Ok (standing s.at (waits s.waiting n None), p)) (sym spelled) ∙ ap (λ u. Ok (standing s.at u, p)) (sym out) ∙ ap (λ y. Ok (standing y w, p)) (sym kept))
 
   module _ (none : None ≡ with_word (out-Routine r).function (s.waiting name)) where
-    pub heading_fails : (f : Fault) → HeadingMay s.seen r (Some b) (Err f) → OpenMay s r b (Err f)
-    heading_fails f now = in_heading (waits_by None none) now
+    before : (o : Outcome (Stage × Opened)) → HeadingMay x r number (Some b) o → HeadingMay s.at r number (Some b) o
+    before o now = subst (λ y. HeadingMay y r number (Some b) o) kept now
 
-    pub heading_opens : (w : Name → Option Opening) (h : Sight × Opening) → w ≡ s.waiting → HeadingMay s.seen r (Some b) (Ok h) → OpenMay s r b (Ok (standing h.0 w, h.1))
-    heading_opens w h same now = subst (λ u. OpenMay s r b (Ok (standing h.0 u, h.1))) (sym same) (opened (waits_by None none) now)
+    pub heading_fails : (f : Fault) → HeadingMay x r number (Some b) (Err f) → OpenMay s r b number (Err f)
+    heading_fails f now = in_heading (waits_by None none) (before (Err f) now)
+
+    pub heading_opens : (w : Name → Option Opened) (h : Stage × Opened) → w ≡ s.waiting → HeadingMay x r number (Some b) (Ok h) → OpenMay s r b number (Ok (standing h.0 w, h.1))
+    heading_opens w h same now = subst (λ u. OpenMay s r b number (Ok (standing h.0 u, h.1))) (sym same) (opened (waits_by None none) (before (Ok h) now))

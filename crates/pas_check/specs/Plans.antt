@@ -33,7 +33,7 @@ waiting_plan number (Some p) = (p.0, Some p.1)
 -- what is kept is that of these routines, the last ones of a block, before which so many have ended
 pub record ArePlanned (text : List ℕ) (bodies : Bodies) (plans : Plans) (before : ℕ) (routines : List Routine) : Type 0 where
   pub given : (name : Name) (function : Bool) → block_given bodies name function ≡ later_block text name function before routines
-  pub plans : reverse (map plan_of plans.list.items) ≡ map planned_of (planned text before routines)
+  pub headings : reverse (map plan_of plans.list.items) ≡ map planned_of (planned text before routines)
   pub lacking : lacking_by plans.lacking ≡ bodies_given text routines
 
 -- the numbers of headings with blocks, where so many routines have ended before; a heading without a block has any

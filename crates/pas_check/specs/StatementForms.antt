@@ -78,7 +78,7 @@ read_form a b = do
 abbrev pub quote : ℕ
 quote = 39
 
-pub undoubled : List ℕ → List ℕ
+unfoldable pub undoubled : List ℕ → List ℕ
 undoubled [] = []
 undoubled (x ∷ []) = x ∷ []
 undoubled (x ∷ (y ∷ rest)) = if nat_eq x quote && nat_eq y quote then x ∷ undoubled rest else x ∷ undoubled (y ∷ rest)

@@ -1,14 +1,13 @@
-ghost use Rattle.std.specs.Prelude.{◌≡◌, ℕ, [], List, IfErr, IfOk, length, map, true};
-ghost use Rattle.pas_tree.specs.declared.block.Tree.{Tree as Parsed};
+ghost use Rattle.std.specs.Prelude.{◌≡◌, ℕ, [], IfErr, IfOk, length, map, true};
 ghost use Rattle.pas_check.specs.Accepted.{IsProgramOf};
-ghost use Rattle.pas_check.specs.Blocks.{IsSound, IsSoundFault, ProgramMay, all_ended, at_first, program_start, required};
+ghost use Rattle.pas_check.specs.Blocks.{IsSound, IsSoundFault, all_ended, at_first, program_start, required};
 ghost use Rattle.pas_check.specs.Built.{nothing_built};
 ghost use Rattle.pas_check.specs.Fault.{IsWithin};
 ghost use Rattle.pas_check.specs.Headings.{inside};
 ghost use Rattle.pas_check.specs.Labels.{labelled, unlabelled};
-ghost use Rattle.pas_check.specs.Outcome.{IsMemory, Outcome};
+ghost use Rattle.pas_check.specs.Outcome.{IsMemory};
 ghost use Rattle.pas_check.specs.Sight.{sight};
-ghost use Rattle.pas_check.specs.Stage.{Stage, stage};
+ghost use Rattle.pas_check.specs.Stage.{stage};
 ghost use Rattle.pas_program.specs.Checked.{tables};
 ghost use Rattle.pas_program.specs.Labels.{AssertsStand, ConstantsDiffer, ControlsAreLocal, LabelsStand};
 
@@ -67,12 +66,6 @@ fn checked(alloc: Global, text: &[u8], tree: &Tree) -> Result<Program, Fault>
     checker.into_program()
 }
 
-/// A law: a tree has one answer. So a tree that breaks a rule has one first rule that it breaks, at one place, and no program; and a
-/// tree that breaks none has one program.
-pub fn a_tree_has_one_answer()
-    ensures { (text : List ℕ) (tree : Parsed) (o u : Outcome Stage) → ProgramMay text tree o → ProgramMay text tree u → o ≡ u }
-{}
-
 impl<'t> Seen<'t> {
     /// What is seen outside all blocks.
     #[tactic(auto, unfolding(crate::specs::Sight::sight))]
@@ -127,27 +120,28 @@ impl<'t> Checker<'t> {
         Ok(checker)
     }
 
+    #[tactic(auto, unfolding(crate::specs::Sight::sight))]
     fn into_program(self) -> Result<Program, Fault>
         ensures memory { IfErr result IsMemory }
-        ensures types { IfOk result (λ p. p.types ≡ (sight self.seen).types) }
-        ensures vars { IfOk result (λ p. p.vars ≡ self.made.built.vars) }
-        ensures routines { IfOk result (λ p. p.routines ≡ self.made.built.routines) }
-        ensures asserts { IfOk result (λ p. p.asserts ≡ self.made.built.asserts) }
+        ensures types { IfOk result (λ p. p.types ≡ (sight self.entry.seen).types) }
+        ensures vars { IfOk result (λ p. p.vars ≡ self.entry.made.built.vars) }
+        ensures routines { IfOk result (λ p. p.routines ≡ self.entry.made.built.routines) }
+        ensures asserts { IfOk result (λ p. p.asserts ≡ self.entry.made.built.asserts) }
         ensures controls { IfOk result (λ p. ControlsAreLocal (tables p) p.routines) }
         ensures labels { IfOk result (λ p. LabelsStand p.routines) }
         ensures constants { IfOk result (λ p. ConstantsDiffer p.routines) }
         ensures assertions { IfOk result (λ p. AssertsStand p.routines p.asserts) }
     {
         let Checker { seen, made } = self;
-        let alloc = seen.alloc;
-        let types = seen.types.into_list();
+        let Seen { alloc, types, .. } = seen;
+        let Made { built, .. } = made;
         let Built {
             vars,
             routines,
             asserts,
             ..
-        } = made.built;
-        match program_of(alloc, types, vars, routines, asserts) {
+        } = built;
+        match program_of(alloc, types.into_list(), vars, routines, asserts) {
             Ok(Some(program)) => Ok(program),
             Ok(None) => Err(Fault::Memory(AllocError)),
             Err(error) => Err(Fault::Memory(error)),

@@ -82,7 +82,7 @@ fn is_local(variable: Variable) -> bool
 
 impl<'t> Seen<'t> {
     /// A `for` whose word stands at `at`, with its control variable and its two bounds.
-    #[tactic(auto, unfolding(crate::specs::Statements::for_head))]
+    #[tactic(auto, unfolding(crate::specs::Statements::for_head, crate::specs::StatementForms::for_head_form, crate::specs::Written::written))]
     pub fn for_head(
         &self,
         made: &mut Made,

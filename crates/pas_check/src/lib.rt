@@ -18,6 +18,7 @@ mod fault;
 mod frame;
 mod heading;
 mod label;
+mod laws;
 mod meaning;
 mod names;
 mod plan;
@@ -30,9 +31,13 @@ mod type_expr;
 mod types;
 mod waiting;
 
-pub use checker::{a_tree_has_one_answer, check};
+pub use checker::check;
 pub use fault::CheckFault;
 pub use label::places_say_the_same_as_paths;
+pub use laws::{
+    a_fault_and_a_program_exclude_each_other, a_tree_has_one_answer, a_tree_has_one_first_fault,
+    a_tree_has_one_program,
+};
 pub use names::names_mean_by_the_rules;
 
 #[cfg(test)]

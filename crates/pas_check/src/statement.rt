@@ -120,7 +120,7 @@ impl<'t> Checker<'t> {
         Ok(cond)
     }
 
-    #[tactic(auto, unfolding(crate::specs::Statements::stated, crate::specs::Statements::stated_body, crate::specs::Statements::stated_arm, crate::specs::Writes::statement_writes, crate::specs::Writes::body_writes, crate::specs::Writes::arm_writes))]
+    #[tactic(auto, unfolding(crate::specs::Statements::stated, crate::specs::Statements::stated_body, crate::specs::Statements::stated_arm, crate::specs::Writes::statement_writes, crate::specs::Writes::body_writes, crate::specs::Writes::arm_writes, crate::specs::StatementForms::statement_form, crate::specs::StatementForms::body_form, crate::specs::StatementForms::arm_form))]
     #[cycle(statement)]
     fn body(&mut self, body: &pas_tree::Body, at: Span) -> Result<Body, Fault>
         ensures value { Gives (λ b. tt) (stated_body body.now at.start (sight self.old.seen)) result }

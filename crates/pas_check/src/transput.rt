@@ -27,13 +27,16 @@ fn unquoted(alloc: Global, quoted: &[u8]) -> Result<Items<u8>, AllocError>
     ensures { IfOk result (λ bytes. bytes ≡ forms.unquoted quoted.now) }
 {
     let mut bytes = Items::new(alloc);
+    // Whether a quote that comes next is left out.
     let mut skip = true;
     for byte in quoted.get(..quoted.len().saturating_sub(1)).unwrap_or(&[]) {
         let quote = *byte == b'\'';
-        if !(quote && skip) {
-            bytes.push(*byte)?;
+        if quote && skip {
+            skip = false;
+            continue;
         }
-        skip = quote && !skip;
+        bytes.push(*byte)?;
+        skip = quote;
     }
     Ok(bytes)
 }
@@ -60,7 +63,7 @@ impl<'t> Seen<'t> {
         self.called_by(made, meaning, name, actuals)
     }
 
-    #[tactic(auto, unfolding(crate::specs::Statements::called_by))]
+    #[tactic(auto, unfolding(crate::specs::Statements::called_by, crate::specs::StatementForms::called_form))]
     fn called_by(
         &self,
         made: &mut Made,
@@ -107,7 +110,7 @@ impl<'t> Seen<'t> {
         })
     }
 
-    #[tactic(auto, unfolding(crate::specs::Statements::transput_call))]
+    #[tactic(auto, unfolding(crate::specs::Statements::transput_call, crate::specs::StatementForms::transput_form))]
     fn transput(
         &self,
         made: &mut Made,

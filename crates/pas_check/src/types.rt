@@ -124,7 +124,9 @@ impl Types {
     }
 
     /// All of them.
-    pub fn into_list(self) -> TypeList {
+    pub fn into_list(self) -> TypeList
+        ensures { result ≡ self.list }
+    {
         let Types { list } = self;
         list
     }

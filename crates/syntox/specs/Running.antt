@@ -10,9 +10,11 @@ use Rattle.interp.specs.RunText.{IsEnd, run_text}
 use Rattle.interp.specs.declared.running.Ended.{Ended}
 use Rattle.interp.specs.declared.running.Ending.{Ending}
 use Rattle.interp.specs.declared.running.Ending.TheVariants as ending
+use Rattle.pas_check.specs.Accepted.{IsProgramOf}
 use Rattle.pas_check.specs.Blocks.{IsSound}
 use Rattle.pas_check.specs.Fault.{IsWithin}
 use Rattle.pas_check.specs.declared.fault.CheckFault.TheVariants.{Wrong}
+use Rattle.pas_program.specs.declared.program.Program.{Program}
 use Rattle.pas_tree.specs.declared.block.Tree.{Tree}
 use Rattle.report.specs.Wording.{fault_line}
 use Rattle.report.specs.declared.fault.SourceFault.{SourceFault}
@@ -59,6 +61,14 @@ pub record HasTree (text : List ℕ) : Type 0 where
   pub within : length text ≤ max_source
   pub tree : Tree
   pub is_tree : IsTreeOf text tree
+
+-- a text that is no larger than a source may be, and that is of a program: its tree breaks no rule
+pub record HasProgram (text : List ℕ) : Type 0 where
+  pub within : length text ≤ max_source
+  pub tree : Tree
+  pub is_tree : IsTreeOf text tree
+  pub program : Program
+  pub is_program : IsProgramOf text tree program
 
 -- ---- runs
 

@@ -15,6 +15,7 @@ use Rattle.pas_check.specs.Accepted.{IsProgramOf}
 use Rattle.pas_check.specs.Blocks.{IsSound}
 use Rattle.pas_check.specs.Fault.{IsWithin}
 use Rattle.pas_check.specs.declared.fault.CheckFault.TheVariants.{Wrong}
+use Rattle.control_points.specs.Sites as Sites
 use Rattle.control_points.specs.declared.flow.Flow.{Flow}
 use Rattle.report.specs.Wording.{CanTell}
 use Rattle.report.specs.declared.fault.SourceFault.{SourceFault}
@@ -37,11 +38,13 @@ pub record IsChecked (checked : Program) : Type 0 where
   pub constants : ConstantsDiffer checked.routines
   pub assertions : AssertsStand checked.routines checked.asserts
 
--- The flow of a source: the source has a tree, which breaks no rule, and the flow is of the program that is built of this tree.
+-- The flow of a source: the source has a tree, which breaks no rule; the flow is of the program that is built of this tree; and its
+-- points, edges and checks are those of the paths in the program's text.
 pub record IsFlowOf (text : List ℕ) (flow : Flow) : Type 0 where
   pub tree : Tree
   pub is_tree : IsTreeOf text tree
   pub is_program : IsProgramOf text tree flow.program
+  pub is_drawn : Sites.IsFlowOf flow.program flow.points flow.edges flow.checks
   pub is_checked : IsChecked flow.program
 
 -- ---- faults

@@ -17,7 +17,7 @@ ghost use Rattle.syntox.specs.Lines.{max_source};
 ghost use Rattle.syntox.specs.Rising.{IsBlockIn};
 ghost use Rattle.syntox.specs.Source.{CanBeTold, IsFlowOf, IsTreeOf, Refuses, token_place};
 
-use control_points::{Flow, build};
+use control_points::{Flow, build, flows_are_those_of_paths};
 use pas_check::{CheckFault, check};
 use pas_lexer::{LexFault, Token, lex};
 use pas_parser::{ParseFault, parse};
@@ -102,6 +102,7 @@ pub fn flow_of(alloc: Global, text: &[u8]) -> Result<Flow, Refusal>
         Ok(program) => program,
         Err(fault) => return Err(checked(fault)),
     };
+    flows_are_those_of_paths();
     match build(alloc, program) {
         Ok(flow) => Ok(flow),
         Err(error) => Err(Refusal::Memory(error)),

@@ -7,7 +7,7 @@ ghost use Rattle.syntox.specs.Analysis.{HasForm, HasNoForm, IsReport};
 ghost use Rattle.syntox.specs.Answers.{Cuts, ForCommand, ForRun, IsDue, outside};
 ghost use Rattle.syntox.specs.Command.{Asked, analysis_of, run_of, asked, file_of};
 ghost use Rattle.syntox.specs.Lines.{large_input_line, max_input, refusal_line, unreadable_line, usage_line};
-ghost use Rattle.syntox.specs.Running.{HasTree, IsFaultless, IsLargeInput, IsRun, IsRunStatus, TellsFault, TellsRule, input_of};
+ghost use Rattle.syntox.specs.Running.{HasProgram, HasTree, IsFaultless, IsLargeInput, IsRun, IsRunStatus, TellsFault, TellsRule, input_of};
 ghost use Rattle.syntox.specs.Sinks.{Takes, at, sinks};
 
 use crate::analyse::analyse;
@@ -15,6 +15,7 @@ use crate::command::{Command, command_of};
 use crate::due::{Due, deliver, usage};
 use crate::run::run;
 use crate::status::Status;
+use pas_check::a_fault_and_a_program_exclude_each_other;
 use pas_lexer::a_text_has_one_covering;
 use px_base::{Shelf, Sink, Source};
 use std::alloc::{AllocError, Global};
@@ -87,12 +88,16 @@ pub fn top<P: Shelf, D: Source, O: Sink, E: Sink>(
         (at (O.taken out.old) (O.faults out.old)) (at (O.taken out.new) (O.faults out.new))
         (at (E.taken err.old) (E.faults err.old)) (at (E.taken err.new) (E.faults err.new))) }
 
-    // A file of the first form is analysed, and a program is run unless a rule of names, types, labels or control variables
-    // is broken.
+    // A file of the first form is analysed, and a program is run. What has a tree and is no program is refused by a rule of names,
+    // types, labels or control variables.
     ensures complete { (file bytes : List ℕ) (form : Form) → asked words.now ≡ Some (analysis_of file) → P.file shelf.old file ≡ Some (Some bytes)
         → HasForm bytes form → ¬ Rose (P.faults shelf.old) (P.faults shelf.new) → ¬ Rose (O.faults out.old) (O.faults out.new)
         → IfOk result (λ status. status ≡ Status.Done) }
     ensures complete_run { (file bytes input : List ℕ) (steps : ℕ) → asked words.now ≡ Some (run_of file steps)
+        → P.file shelf.old file ≡ Some (Some bytes) → HasProgram bytes → D.left given.old ≡ Some input → length input ≤ max_input
+        → ¬ Rose (P.faults shelf.old) (P.faults shelf.new) → ¬ Rose (D.faults given.old) (D.faults given.new)
+        → ¬ Rose (O.faults out.old) (O.faults out.new) → IfOk result (λ status. IsRunStatus status) }
+    ensures complete_check { (file bytes input : List ℕ) (steps : ℕ) → asked words.now ≡ Some (run_of file steps)
         → P.file shelf.old file ≡ Some (Some bytes) → HasTree bytes → D.left given.old ≡ Some input → length input ≤ max_input
         → ¬ Rose (P.faults shelf.old) (P.faults shelf.new) → ¬ Rose (D.faults given.old) (D.faults given.new)
         → ¬ Rose (O.faults out.old) (O.faults out.new) → ¬ Rose (E.faults err.old) (E.faults err.new)
@@ -108,6 +113,7 @@ pub fn top<P: Shelf, D: Source, O: Sink, E: Sink>(
     ensures given { (given.new ≡ given.old) ⊎ ForRun (asked words.now) (λ file steps. IsFaultless (P.file shelf.old file)) }
 {
     a_text_has_one_covering();
+    a_fault_and_a_program_exclude_each_other();
     let due = due_for(alloc, words, shelf, given)?;
     Ok(deliver(&due, out, err))
 }

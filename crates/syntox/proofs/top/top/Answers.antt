@@ -73,7 +73,14 @@ returns-clause-complete g c file bytes form asks known has calm still =
     (subst (λ a. IsDue (told g c) a c.in_ok-due.due.to c.in_ok-due.due.text.items c.in_ok-due.due.status) asks c.in_ok-due.ensures.due) c.deliver.ensures
 
 pub returns-clause-complete_run : goal.returns-clause-complete_run
-returns-clause-complete_run g c file bytes input steps asks known tree given few calm calm_input still still_err =
+returns-clause-complete_run g c file bytes input steps asks known has given few calm calm_input still =
+    let law = c.a_text_has_one_covering.ensures in
+    complete.ran_whole (told g c) (around g c) file bytes input steps known given few calm calm_input still
+    (complete.no_line law.tokens law.either c.a_fault_and_a_program_exclude_each_other.ensures file bytes has)
+    (subst (λ a. IsDue (told g c) a c.in_ok-due.due.to c.in_ok-due.due.text.items c.in_ok-due.due.status) asks c.in_ok-due.ensures.due) c.deliver.ensures
+
+pub returns-clause-complete_check : goal.returns-clause-complete_check
+returns-clause-complete_check g c file bytes input steps asks known tree given few calm calm_input still still_err =
     let law = c.a_text_has_one_covering.ensures in
     complete.ran (told g c) (around g c) file bytes input steps known given few calm calm_input still still_err
     (complete.rule_of law.tokens law.either file bytes tree)

@@ -1,50 +1,50 @@
-use Rattle.std.proofs.Common.{Err, Ok, arith, refl, rules, sym, ◌∙◌}
+use Rattle.std.proofs.Common.{Err, Ok, arith, refl, rules}
 use Rattle.std.specs.Option.{option_copied}
 use Rattle.pas_tree.specs.declared.block.RoutineBody.TheViews.{out-Block}
-use Rattle.pas_check.specs.Blocks.{BlockMay, ForwardMay, RoutineMay, RoutinesMay, Standing, block_ended, in_block, is_word, not_begun, not_opened, planned, standing, waiting_of, whole_block}
-use Rattle.pas_check.specs.Headings.{opening_of}
-use Rattle.pas_check.specs.Sight.{Sight, sight}
-use Rattle.pas_check.proofs.Blocks.{block_in_routines, block_to_end, gives_all, meets_all, meets_by}
+use Rattle.pas_check.specs.Blocks.{BlockMay, EndMay, ForwardMay, RoutineMay, RoutinesMay, Standing, in_block, is_word, not_begun, not_opened, planned, standing, waiting_of, whole_block}
+use Rattle.pas_check.specs.Sight.{sight}
+use Rattle.pas_check.specs.Stage.{Stage, stage}
+use Rattle.pas_check.proofs.Blocks.{block_in_routines, block_to_end, meets_all, meets_by}
 use Rattle.pas_check.proofs.Declarations.{meets_wrong}
 use Rattle.pas_check.proofs.Routines.{lacking_theirs, no_plan, plans_go, plans_theirs, routines_end, routines_go, routines_stop}
 use Rattle.pas_check.proofs.checker.Checker.+block.Goals as goal
 
 pub block-returns-in_err-outer : goal.block-returns-in_err-outer
 block-returns-in_err-outer t c = record {
-  value = meets_wrong {B = Sight} _ (BlockMay (sight c.args.self.now.seen) (opening_of c.args.opened) c.args.block.now) c.from_residual.result c.in_err-outer.field-0.0 (search rules) (λ own. not_begun (c.in_err-outer.ensures.value own));
+  value = meets_wrong {B = Stage} _ (BlockMay (stage c.args.self.now) c.args.opened c.args.block.now) c.from_residual.result c.in_err-outer.field-0.0 (search rules) (λ own. not_begun (c.in_err-outer.ensures.value own));
 }
 
 pub block-returns-in_err-routine_part : goal.block-returns-in_err-routine_part
 block-returns-in_err-routine_part t c = record {
-  value = meets_wrong {B = Sight} _ (BlockMay (sight c.args.self.now.seen) (opening_of c.args.opened) c.args.block.now) c.from_residual-in_err-routine_part.result c.in_err-routine_part.field-0.0 (search rules) (λ own.
-      block_in_routines (sight c.args.self.now.seen) (sight c.begin.new.self.seen) (opening_of c.args.opened) c.args.block.now c.in_ok-outer.ensures.value c.as_slice-2.result.now c.as_slice-2.ensures (waiting_of c.new-waiting.result) c.new-waiting.ensures c.in_err-routine_part.field-0.0 (c.in_err-routine_part.ensures.value (plans_theirs c.begin.new.self.seen c.as_slice.result.now c.as_slice-2.result.now (c.as_slice.ensures ∙ sym c.as_slice-2.ensures) c.in_ok-plans.plans.list.items c.in_ok-plans.ensures.later) own));
+  value = meets_wrong {B = Stage} _ (BlockMay (stage c.args.self.now) c.args.opened c.args.block.now) c.from_residual-in_err-routine_part.result c.in_err-routine_part.field-0.0 (search rules) (λ own.
+      block_in_routines (stage c.args.self.now) (stage c.begin.new.self) c.args.opened c.args.block.now c.in_ok-outer.ensures.value c.as_slice-routines.result.now c.as_slice-routines.ensures (waiting_of c.new-waiting.result) c.new-waiting.ensures c.in_err-routine_part.field-0.0 (c.in_err-routine_part.ensures.value (plans_theirs c.begin.new.self.seen c.as_slice-routines.result.now c.in_ok-plans.plans.list.items c.in_ok-plans.ensures.later) own));
 }
 
 pub block-returns : goal.block-returns
 block-returns t c =
-    let v = (sight c.args.self.now.seen) in
+    let s = stage c.args.self.now in
     let text = (sight c.begin.new.self.seen).text in
-    let s = standing (sight c.routine_part.new.self.seen) (waiting_of c.routine_part.new.waiting) in record {
-      value = gives_all _ (block_ended v (opening_of c.args.opened) c.args.block.now text s.seen) (BlockMay v (opening_of c.args.opened) c.args.block.now) c.end.result
-          (λ o is. block_to_end (sight c.args.self.now.seen) (sight c.begin.new.self.seen) (opening_of c.args.opened) c.args.block.now c.in_ok-outer.ensures.value c.as_slice-2.result.now c.as_slice-2.ensures (waiting_of c.new-waiting.result) c.new-waiting.ensures s o (c.in_ok-routine_part.ensures.value (plans_theirs c.begin.new.self.seen c.as_slice.result.now c.as_slice-2.result.now (c.as_slice.ensures ∙ sym c.as_slice-2.ensures) c.in_ok-plans.plans.list.items c.in_ok-plans.ensures.later)) is)
-          (c.end.ensures.value v (opening_of c.args.opened) text (sym c.in_ok-outer.ensures.level) refl (lacking_theirs c.begin.new.self.seen c.as_slice.result.now (out-Block c.args.block.now).routines c.as_slice.ensures c.in_ok-plans.plans.lacking c.in_ok-plans.ensures.lacking));
+    let end = standing (stage c.routine_part.new.self) (waiting_of c.routine_part.new.waiting) in record {
+      value = meets_all _ (EndMay s c.args.opened c.args.block.now text end.at) (BlockMay s c.args.opened c.args.block.now) c.end.result
+          (λ o is. block_to_end s (stage c.begin.new.self) c.args.opened c.args.block.now c.in_ok-outer.ensures.value c.as_slice-routines.result.now c.as_slice-routines.ensures (waiting_of c.new-waiting.result) c.new-waiting.ensures end o (c.in_ok-routine_part.ensures.value (plans_theirs c.begin.new.self.seen c.as_slice-routines.result.now c.in_ok-plans.plans.list.items c.in_ok-plans.ensures.later)) is)
+          (c.end.ensures.value s c.args.opened text c.in_ok-outer.ensures.outer refl (lacking_theirs c.begin.new.self.seen c.as_slice-routines.result.now (out-Block c.args.block.now).routines c.as_slice-routines.ensures c.in_ok-plans.plans.lacking c.in_ok-plans.ensures.lacking));
     }
 
 pub routine-returns-in_err-opened-in-Block : goal.routine-returns-in_err-opened-in-Block
 routine-returns-in_err-opened-in-Block t c = record {
-  value = meets_wrong {B = Standing} _ (RoutineMay (standing (sight c.args.self.now.seen) (waiting_of c.args.waiting.now)) c.args.routine.now (option_copied c.args.plan.later)) c.from_residual.result c.in_err-opened-in-Block.field-0.0 (search rules) (λ own. not_opened c.in-Block.block c.in-Block.is (c.in_err-opened-in-Block.ensures.value own));
+  value = meets_wrong {B = Standing} _ (RoutineMay (standing (stage c.args.self.now) (waiting_of c.args.waiting.now)) c.args.routine.now (option_copied c.args.plan.later)) c.from_residual.result c.in_err-opened-in-Block.field-0.0 (search rules) (λ own. not_opened c.in-Block.block c.args.plan.number c.in-Block.is (c.in_err-opened-in-Block.ensures.value own));
 }
 
 pub routine-returns-in-Word : goal.routine-returns-in-Word
 routine-returns-in-Word t c = record {
-  value = meets_all _ (ForwardMay (standing (sight c.args.self.now.seen) (waiting_of c.args.waiting.now)) c.args.routine.now c.in-Word.word (option_copied c.args.plan.later)) (RoutineMay (standing (sight c.args.self.now.seen) (waiting_of c.args.waiting.now)) c.args.routine.now (option_copied c.args.plan.later)) c.forward.result (λ o now. is_word c.in-Word.word c.in-Word.is now) c.forward.ensures.value;
+  value = meets_all _ (ForwardMay (standing (stage c.args.self.now) (waiting_of c.args.waiting.now)) c.args.routine.now c.in-Word.word c.args.plan.number (option_copied c.args.plan.later)) (RoutineMay (standing (stage c.args.self.now) (waiting_of c.args.waiting.now)) c.args.routine.now (option_copied c.args.plan.later)) c.forward.result (λ o now. is_word c.in-Word.word c.args.plan.number c.in-Word.is now) c.forward.ensures.value;
 }
 
 pub routine-returns-in_ok-opened-in-Block : goal.routine-returns-in_ok-opened-in-Block
 routine-returns-in_ok-opened-in-Block t c = record {
-  value = meets_by _ (BlockMay (sight c.opened.new.self.seen) (opening_of c.in_ok-opened-in-Block.opened) c.in-Block.block) _ (RoutineMay (standing (sight c.args.self.now.seen) (waiting_of c.args.waiting.now)) c.args.routine.now (option_copied c.args.plan.later)) c.block.result
-      (λ a now. whole_block c.in-Block.block c.in-Block.is c.in_ok-opened-in-Block.ensures.value now)
-      (λ e now. in_block c.in-Block.block c.in-Block.is c.in_ok-opened-in-Block.ensures.value now)
+  value = meets_by _ (BlockMay (stage c.opened.new.self) c.in_ok-opened-in-Block.opened c.in-Block.block) _ (RoutineMay (standing (stage c.args.self.now) (waiting_of c.args.waiting.now)) c.args.routine.now (option_copied c.args.plan.later)) c.block.result
+      (λ a now. whole_block c.in-Block.block c.args.plan.number c.in-Block.is c.in_ok-opened-in-Block.ensures.value now)
+      (λ e now. in_block c.in-Block.block c.args.plan.number c.in-Block.is c.in_ok-opened-in-Block.ensures.value now)
       c.block.ensures.value;
 }
 
@@ -56,18 +56,18 @@ routine_part-returns-in_default t c = record {
 pub routine_part-returns-in_err-routine : goal.routine_part-returns-in_err-routine
 routine_part-returns-in_err-routine t c = record {
   value = λ same.
-      meets_wrong {B = Standing} _ (RoutinesMay (standing (sight c.args.self.now.seen) (waiting_of c.args.waiting.now)) (planned (sight c.args.self.now.seen).text c.args.routines.now)) c.from_residual.result c.in_err-routine.field-0.0 (search rules) (λ own.
-      (c.loop-routine.invariant same).1 (Err c.in_err-routine.field-0.0) (routines_stop (sight c.args.self.now.seen).text c.args.routines.now c.loop-routine.routine-index c.routine-item.result c.loop-routine-test.true c.routine-item.is c.loop-routine.plans.items c.pop.new.self.items c.in-Some.plan c.in-Some.ensures.items (c.loop-routine.invariant same).0 (standing (sight c.loop-routine.self.seen) (waiting_of c.loop-routine.waiting)) c.in_err-routine.field-0.0 (c.in_err-routine.ensures.value own)));
+      meets_wrong {B = Standing} _ (RoutinesMay (standing (stage c.args.self.now) (waiting_of c.args.waiting.now)) (planned (sight c.args.self.now.seen).text c.args.routines.now)) c.from_residual.result c.in_err-routine.field-0.0 (search rules) (λ own.
+      (c.loop-routine.invariant same).1 (Err c.in_err-routine.field-0.0) (routines_stop (sight c.args.self.now.seen).text c.args.routines.now c.loop-routine.routine-index c.routine-item.result c.loop-routine-test.true c.routine-item.is c.loop-routine.plans.items c.pop.new.self.items c.in-Some.plan c.in-Some.ensures.items (c.loop-routine.invariant same).0 (standing (stage c.loop-routine.self) (waiting_of c.loop-routine.waiting)) c.in_err-routine.field-0.0 (c.in_err-routine.ensures.value own)));
 }
 
 pub routine_part-loop-routine-preserved : goal.routine_part-loop-routine-preserved
 routine_part-loop-routine-preserved t c = λ same. (
   plans_go (sight c.args.self.now.seen).text c.args.routines.now c.loop-routine.routine-index c.routine-item.result c.loop-routine-test.true c.routine-item.is c.loop-routine.plans.items c.pop.new.self.items c.in-Some.plan c.in-Some.ensures.items (c.loop-routine.invariant same).0,
-  λ o rest. (c.loop-routine.invariant same).1 o (routines_go (sight c.args.self.now.seen).text c.args.routines.now c.loop-routine.routine-index c.routine-item.result c.loop-routine-test.true c.routine-item.is c.loop-routine.plans.items c.pop.new.self.items c.in-Some.plan c.in-Some.ensures.items (c.loop-routine.invariant same).0 (standing (sight c.loop-routine.self.seen) (waiting_of c.loop-routine.waiting)) (standing (sight c.routine.new.self.seen) (waiting_of c.routine.new.waiting)) o c.in_ok-routine.ensures.value rest),
+  λ o rest. (c.loop-routine.invariant same).1 o (routines_go (sight c.args.self.now.seen).text c.args.routines.now c.loop-routine.routine-index c.routine-item.result c.loop-routine-test.true c.routine-item.is c.loop-routine.plans.items c.pop.new.self.items c.in-Some.plan c.in-Some.ensures.items (c.loop-routine.invariant same).0 (standing (stage c.loop-routine.self) (waiting_of c.loop-routine.waiting)) (standing (stage c.routine.new.self) (waiting_of c.routine.new.waiting)) o c.in_ok-routine.ensures.value rest),
 )
 
 pub routine_part-returns : goal.routine_part-returns
 routine_part-returns t c =
-    let now = standing (sight c.loop-routine.self.seen) (waiting_of c.loop-routine.waiting) in record {
+    let now = standing (stage c.loop-routine.self) (waiting_of c.loop-routine.waiting) in record {
       value = λ same. (c.loop-routine.invariant same).1 (Ok now) (routines_end (sight c.args.self.now.seen).text c.args.routines.now c.loop-routine.routine-index now c.loop-routine-test.false);
     }

@@ -2,6 +2,7 @@ use Rattle.std.proofs.Common.{drop}
 use Rattle.pas_check.specs.Blocks.{RoutinesMay, Standing, planned, standing, waiting_of}
 use Rattle.pas_check.specs.Outcome.{Outcome}
 use Rattle.pas_check.specs.Sight.{sight}
+use Rattle.pas_check.specs.Stage.{stage}
 use Rattle.pas_check.proofs.Routines.{AreTheirs}
 use Rattle.pas_check.proofs.checker.Checker.+block.Given as goal
 
@@ -10,4 +11,4 @@ abbrev pub invariant-routine_part-loop-routine : goal.invariant-routine_part-loo
 invariant-routine_part-loop-routine l =
     let text = (sight l.fn.self.seen).text in
     AreTheirs text l.fn.plans.items l.routines → AreTheirs text l.plans.items (drop l.routine-index l.routines)
-    × ((o : Outcome Standing) → RoutinesMay (standing (sight l.self.seen) (waiting_of l.waiting)) (planned text (drop l.routine-index l.routines)) o → RoutinesMay (standing (sight l.fn.self.seen) (waiting_of l.fn.waiting)) (planned text l.routines) o)
+    × ((o : Outcome Standing) → RoutinesMay (standing (stage l.self) (waiting_of l.waiting)) (planned text (drop l.routine-index l.routines)) o → RoutinesMay (standing (stage l.fn.self) (waiting_of l.fn.waiting)) (planned text l.routines) o)

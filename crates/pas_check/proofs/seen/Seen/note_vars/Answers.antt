@@ -6,5 +6,5 @@ use Rattle.pas_check.proofs.seen.Seen.note_vars.Goals as goal
 
 pub loop-decl-preserved : goal.loop-decl-preserved
 loop-decl-preserved c =
-    noted_more var_names c.args.self.now.text.now (noted_all c.args.self.now.text.now (flat_map var_names c.args.decls.now) c.args.scope.now.names) c.loop-decl.scope.names _ c.args.decls.now c.loop-decl.decl-index c.decl-item.result c.as_slice.result.now
+    noted_more var_names c.args.self.now.text.now (noted_all c.args.self.now.text.now (flat_map var_names c.args.decls.now) c.args.declared.now) c.loop-decl.declared _ c.args.decls.now c.loop-decl.decl-index c.decl-item.result c.as_slice.result.now
     c.loop-decl.invariant c.loop-decl-test.true c.decl-item.is c.as_slice.ensures c.in_ok-note_names.ensures.names

@@ -1,13 +1,18 @@
 use Rattle.std.proofs.Common.{◌≡◌, map, drop}
+use Rattle.pas_check.specs.Built.{in_order}
 use Rattle.pas_check.specs.Expr.{given}
+use Rattle.pas_check.specs.Forms.{given_form}
 use Rattle.pas_check.specs.Sight.{sight}
 use Rattle.pas_check.specs.Statement.{all_read}
+use Rattle.pas_check.specs.StatementForms.{read_form}
 use Rattle.pas_check.specs.Writes.{read_writes}
 use Rattle.pas_check.specs.Written.{writes_in_turn, written}
+use Rattle.pas_check.proofs.InOrder.{after}
 use Rattle.pas_check.proofs.seen.Seen.read.Given as goal
 
 abbrev pub invariant-loop-actual : goal.invariant-loop-actual
 invariant-loop-actual l = record {
   rest : all_read (sight l.self) (map (given (sight l.self)) l.actuals) ≡ all_read (sight l.self) (map (given (sight l.self)) (drop l.actual-index l.actuals));
   writes : writes_in_turn (read_writes (sight l.self)) (map (given (sight l.self)) l.actuals) (written l.fn.made) ≡ writes_in_turn (read_writes (sight l.self)) (map (given (sight l.self)) (drop l.actual-index l.actuals)) (written l.made);
+  form : in_order read_form (map (given_form (sight l.self)) l.actuals) l.fn.made.built ≡ after l.to (in_order read_form (map (given_form (sight l.self)) (drop l.actual-index l.actuals)) l.made.built);
 }

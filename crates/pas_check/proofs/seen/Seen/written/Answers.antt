@@ -1,5 +1,6 @@
 use Rattle.std.proofs.Common.{rules}
 use Rattle.pas_check.specs.Sight.{sight}
+use Rattle.pas_check.proofs.Calls.{item_is}
 use Rattle.pas_check.proofs.Passing.{gives_wrong}
 use Rattle.pas_check.proofs.Statements.{value_fails, width_is}
 use Rattle.pas_check.proofs.Writes.{item_writes_are}
@@ -16,5 +17,6 @@ returns-in_err-width-clause-value c =
 pub returns : goal.returns
 returns c = record {
   value = width_is (sight c.args.self.now) c.args.actual.now _ c.in_ok-value.ensures.value c.in_ok-width.ensures.value;
+  form = item_is (sight c.args.self.now) c.args.actual.now _ _ _ _ _ c.in_ok-value.ensures.form c.in_ok-width.ensures.form;
   writes = item_writes_are (sight c.args.self.now) c.args.actual.now _ _ _ c.in_ok-value.ensures.writes c.in_ok-width.ensures.writes;
 }
