@@ -34,6 +34,6 @@ module _ (b : Block) (part : List Label) (same : part ≡ (out-Block b).labels) 
       → labels_read b ≡ Ok (kept_in labels)
   labels_are declared labels e added notes =
       let each : (n : ℕ) → kept_in labels n ≡ marked b n =
-          λ n. notes n ∙ ap (noted n (sequence_marks (out-Block b).body true)) (added n ∙ ap (λ ls. declaration_of n ls (get nat_eq none n)) same ∙ ap (λ (es : List (ℕ × LabelDecl)). declaration_of n (out-Block b).labels (lookup (nat_eq n) es)) empty) in
+      λ n. notes n ∙ ap (noted n (sequence_marks (out-Block b).body true)) (added n ∙ ap (λ ls. declaration_of n ls (get nat_eq none n)) same ∙ ap (λ (es : List (ℕ × LabelDecl)). declaration_of n (out-Block b).labels (lookup (nat_eq n) es)) empty) in
       let all : marked b ≡ kept_in labels = λ i n. sym (each n) i in
       read_by (Ok (keys declared)) e ∙ ap (λ (kept : Kept). Ok kept) all

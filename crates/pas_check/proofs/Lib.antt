@@ -1,3 +1,4 @@
+pub mod Begins
 pub mod Blocks
 pub mod ByName
 pub mod Calls
@@ -7,7 +8,6 @@ pub mod Declared
 pub mod Formals
 pub mod Forms
 pub mod Found
-pub mod Headings
 pub mod InOrder
 pub mod Labels
 pub mod Loops

@@ -217,9 +217,7 @@ impl<'t> Checker<'t> {
             routine: number,
             level: begun.level,
         };
-        let names = self
-            .seen
-            .own_names(&mut self.made.lower, routine, block)?;
+        let names = self.seen.own_names(&mut self.made.lower, routine, block)?;
         self.push_scope(Scope::new(self.seen.alloc, number, names))?;
         let formals = self.formals(owner, routine.formals.as_slice())?;
         let scope = self.pop_scope(number);
