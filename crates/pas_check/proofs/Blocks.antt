@@ -1,5 +1,5 @@
 -- Blocks, from their beginning to their end.
-use Rattle.std.proofs.Common.{◌≡◌, ℕ, false, List, [], length, Option, None, Some, Ok, Err, sym, ap, subst, ◌∙◌}
+use Rattle.std.proofs.Common.{◌≡◌, ℕ, List, length, Option, Some, Ok, Err, sym, ap, subst, ◌∙◌}
 use Rattle.std.specs.Prelude.{IfErr, OnOk}
 use Rattle.pas_tree.specs.declared.block.Block.{Block}
 use Rattle.pas_tree.specs.declared.block.Routine.{Routine}
@@ -10,7 +10,6 @@ use Rattle.pas_check.specs.declared.block.Outer.{Outer}
 use Rattle.pas_check.specs.declared.built.Built.{Built}
 use Rattle.pas_check.specs.declared.fault.Fault.{Fault}
 use Rattle.pas_check.specs.declared.fault.Fault.TheVariants.{Broken, Memory}
-use Rattle.pas_check.specs.declared.frame.Frame.{Frame}
 use Rattle.pas_check.specs.declared.heading.Function.{Function}
 use Rattle.pas_check.specs.declared.heading.Opened.{Opened}
 use Rattle.pas_check.specs.Blocks.{BlockMay, EndMay, RoutinesMay, Standing, begins, block_built, block_ended, end_allowed, ends, in_routines, left, not_ended, nothing_waits, outer_of, planned, planned_in, standing, statement_of, statements_ended, to_end}

@@ -1,4 +1,4 @@
-use Rattle.std.proofs.Common.{◌≡◌, ℕ, drop}
+use Rattle.std.proofs.Common.{ℕ, drop}
 use Rattle.pas_check.specs.Blocks.{RoutinesMay, Standing, planned, standing, waiting_of}
 use Rattle.pas_check.specs.Outcome.{Outcome}
 use Rattle.pas_check.specs.Sight.{sight}

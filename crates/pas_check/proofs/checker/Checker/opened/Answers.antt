@@ -1,6 +1,5 @@
-use Rattle.std.proofs.Common.{◌∙◌, Err, Some, rules}
+use Rattle.std.proofs.Common.{◌∙◌, rules}
 use Rattle.pas_check.specs.Blocks.{Standing, opened_by, standing, waiting_of, waits_for}
-use Rattle.pas_check.specs.Outcome.{Gives}
 use Rattle.pas_check.specs.Sight.{sight}
 use Rattle.pas_check.specs.Stage.{Stage, stage}
 use Rattle.pas_check.specs.declared.heading.Opened.{Opened}
