@@ -1,26 +1,22 @@
 -- Blocks, from their beginning to their end.
-use Rattle.std.proofs.Common.{◌≡◌, ℕ, false, List, [], length, Option, None, Some, Ok, Err, sym, ap, subst, ◌∙◌}
+use Rattle.std.proofs.Common.{◌≡◌, ℕ, List, length, Option, Some, Ok, Err, sym, ap, subst, ◌∙◌}
 use Rattle.std.specs.Prelude.{IfErr, OnOk}
 use Rattle.pas_tree.specs.declared.block.Block.{Block}
 use Rattle.pas_tree.specs.declared.block.Routine.{Routine}
 use Rattle.pas_tree.specs.declared.block.RoutineBody.TheViews.{out-Block}
-use Rattle.pas_tree.specs.declared.block.Tree.{Tree}
 use Rattle.pas_tree.specs.declared.statement.Statement.{Statement}
 use Rattle.pas_program.specs.declared.statement.Statement as statement
 use Rattle.pas_check.specs.declared.block.Outer.{Outer}
 use Rattle.pas_check.specs.declared.built.Built.{Built}
 use Rattle.pas_check.specs.declared.fault.Fault.{Fault}
 use Rattle.pas_check.specs.declared.fault.Fault.TheVariants.{Broken, Memory}
-use Rattle.pas_check.specs.declared.frame.Frame.{Frame}
 use Rattle.pas_check.specs.declared.heading.Function.{Function}
 use Rattle.pas_check.specs.declared.heading.Opened.{Opened}
-use Rattle.pas_check.specs.Block.{names_in}
-use Rattle.pas_check.specs.Blocks.{BeginsMay, BlockMay, EndMay, LabelsMay, RoutinesMay, Standing, block_built, block_ended, end_allowed, ends, entered, in_parts, in_routines, left, not_ended, nothing_waits, outer_of, own_block, parts, planned, program_frame, program_opened, standing, statement_of, statements_ended, to_end}
-use Rattle.pas_check.specs.Built.{frame_of, with_routine}
+use Rattle.pas_check.specs.Blocks.{BlockMay, EndMay, RoutinesMay, Standing, begins, block_built, block_ended, end_allowed, ends, in_routines, left, not_ended, nothing_waits, outer_of, planned, planned_in, standing, statement_of, statements_ended, to_end}
+use Rattle.pas_check.specs.Built.{with_routine}
 use Rattle.pas_check.specs.Headings.{outside}
-use Rattle.pas_check.specs.Labels.{Labels}
-use Rattle.pas_check.specs.Names.{Name, Names, noted_all}
-use Rattle.pas_check.specs.Outcome.{IsMemory, Meets, Outcome, ◌>>=◌}
+use Rattle.pas_check.specs.Names.{Name}
+use Rattle.pas_check.specs.Outcome.{Gives, IsMemory, Meets, Outcome, ◌>>=◌}
 use Rattle.pas_check.specs.Sight.{Sight}
 use Rattle.pas_check.specs.Stage.{Stage}
 use Rattle.pas_check.specs.StatementForms.{sequence_form}
@@ -35,29 +31,30 @@ meets_by shown May other Can (Err e) good wrong h = λ own. wrong e (h own)
 pub meets_all : {A B : Type 0} (shown : A → B) (May Can : Outcome B → Type 0) (r : Outcome A) → ((o : Outcome B) → May o → Can o) → Meets shown May r → Meets shown Can r
 meets_all shown May Can r can h = meets_by shown May shown Can r (λ a. can (Ok (shown a))) (λ e. can (Err e)) h
 
--- ---- the parts before the routines
+-- what is given may be answered
+pub meets_given : {A B : Type 0} (shown : A → B) (defined : Outcome B) (Can : Outcome B → Type 0) (r : Outcome A) → ((o : Outcome B) → defined ≡ o → Can o) → Gives shown defined r → Meets shown Can r
+meets_given shown defined Can (Ok a) can h = can (Ok (shown a)) h
+meets_given shown defined Can (Err e) can h = λ own. can (Err e) (h own)
 
-pub begins_in_parts : (s w : Stage) (p : Opened) (b : Block) (labels : Labels) (o : Outcome Stage) → LabelsMay b (Ok labels) → w ≡ entered s p (own_block p labels) → parts w b ≡ o → BeginsMay s p b o
-begins_in_parts s w p b labels o kept is now = in_parts kept (ap (λ (x : Stage). parts x b) (sym is) ∙ now)
+-- what one part gives, another does
+pub gives_by : {A B C : Type 0} (shown : A → B) (defined : Outcome B) (other : A → C) (whole : Outcome C) (r : Outcome A) → ((a : A) → defined ≡ Ok (shown a) → whole ≡ Ok (other a)) → ((e : Fault) → defined ≡ Err e → whole ≡ Err e) → Gives shown defined r → Gives other whole r
+gives_by shown defined other whole (Ok a) good wrong h = good a h
+gives_by shown defined other whole (Err e) good wrong h = λ own. wrong e (h own)
 
 -- ---- blocks
 
-module _ (s u : Stage) (p : Opened) (b : Block) (begins : BeginsMay s p b (Ok u)) (routines : List Routine) (same : routines ≡ (out-Block b).routines) (waiting : Name → Option Opened) (none : waiting ≡ nothing_waits) where
-  at_first : (o : Outcome Standing) → RoutinesMay (standing u waiting) (planned u.seen.text routines) o → RoutinesMay (standing u nothing_waits) (planned u.seen.text (out-Block b).routines) o
-  at_first o now = subst (λ rs. RoutinesMay (standing u nothing_waits) (planned u.seen.text rs) o) same (subst (λ w. RoutinesMay (standing u w) (planned u.seen.text routines) o) none now)
+module _ (s u : Stage) (p : Opened) (b : Block) (begun : begins s p b ≡ Ok u) (routines : List Routine) (same : routines ≡ (out-Block b).routines) (first : ℕ) (so_many : first ≡ length u.built.routines)
+    (waiting : Name → Option Opened) (none : waiting ≡ nothing_waits) where
+  at_first : (o : Outcome Standing) → RoutinesMay (standing u waiting) (planned u.seen.text first routines) o → RoutinesMay (standing u nothing_waits) (planned_in u b) o
+  at_first o now =
+      subst (λ n. RoutinesMay (standing u nothing_waits) (planned u.seen.text n (out-Block b).routines) o) so_many
+      (subst (λ rs. RoutinesMay (standing u nothing_waits) (planned u.seen.text first rs) o) same (subst (λ w. RoutinesMay (standing u w) (planned u.seen.text first routines) o) none now))
 
-  pub block_in_routines : (f : Fault) → RoutinesMay (standing u waiting) (planned u.seen.text routines) (Err f) → BlockMay s p b (Err f)
-  block_in_routines f now = in_routines begins (at_first (Err f) now)
+  pub block_in_routines : (f : Fault) → RoutinesMay (standing u waiting) (planned u.seen.text first routines) (Err f) → BlockMay s p b (Err f)
+  block_in_routines f now = in_routines begun (at_first (Err f) now)
 
-  pub block_to_end : (t : Standing) (o : Outcome Stage) → RoutinesMay (standing u waiting) (planned u.seen.text routines) (Ok t) → EndMay s p b u.seen.text t.at o → BlockMay s p b o
-  block_to_end t o now after = to_end begins (at_first (Ok t) now) after
-
--- the block of a program
-pub program_may : (s : Stage) (tree : Tree) (number : ℕ) (frame : Frame) (formals : List ℕ) (names : Names) (o : Outcome Stage) → formals ≡ [] → frame ≡ frame_of tree.name number None 0 formals None → names ≡ noted_all s.seen.text (names_in tree.block) []
-    → BlockMay s (record { frame = frame; function = false; names = names; result = None }) tree.block o → BlockMay s (program_opened s.seen.text tree (program_frame tree number)) tree.block o
-program_may s tree number frame formals names o none at_frame own now =
-    subst (λ (ns : Names). BlockMay s (record { frame = program_frame tree number; function = false; names = ns; result = None }) tree.block o) own
-    (subst (λ (f : Frame). BlockMay s (record { frame = f; function = false; names = names; result = None }) tree.block o) (at_frame ∙ ap (λ (fs : List ℕ). frame_of tree.name number None 0 fs None) none) now)
+  pub block_to_end : (t : Standing) (o : Outcome Stage) → RoutinesMay (standing u waiting) (planned u.seen.text first routines) (Ok t) → EndMay s p b u.seen.text t.at o → BlockMay s p b o
+  block_to_end t o now after = to_end begun (at_first (Ok t) now) after
 
 -- ---- the end of a block
 

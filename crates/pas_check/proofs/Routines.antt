@@ -16,8 +16,9 @@ use Rattle.pas_check.specs.declared.heading.Opened.{Opened}
 use Rattle.pas_check.specs.declared.plan.Plan.{Plan}
 use Rattle.pas_check.specs.declared.seen.Made.{Made}
 use Rattle.pas_check.specs.declared.seen.Seen.{Seen}
-use Rattle.pas_check.specs.Blocks.{OpenMay, RoutineMay, RoutinesMay, Standing, awaited, awaited_block, bodies_given, forwarded, goes_on, in_heading, is_forward, lacking_by, later_of, no_more, opened, opening_for, planned, standing, stops_in, waits, waits_for, with_word}
-use Rattle.pas_check.specs.Headings.{HeadingMay}
+use Rattle.pas_check.specs.Block.{ends_of}
+use Rattle.pas_check.specs.Blocks.{Numbered, Planned, RoutineMay, RoutinesMay, Standing, block_of, bodies_given, body_after, forward_read, forwarded, goes_on, is_forward, lacking_by, no_more, opened, opened_by, opening_for, plan_by, plan_of, planned, planned_of, planned_with, standing, stops_in, waits, waits_for, with_word}
+use Rattle.pas_check.specs.Headings.{heading_read}
 use Rattle.pas_check.specs.Names.{Name, name_at, spelling}
 use Rattle.pas_check.specs.Outcome.{Outcome, ◌>>=◌, unless}
 use Rattle.pas_check.specs.Routine.{repeated_heading}
@@ -27,37 +28,54 @@ use Rattle.pas_check.proofs.ByName.{changed_at}
 use Rattle.pas_check.proofs.Declarations.{last_is}
 use Rattle.pas_check.proofs.Passing.{drop_next}
 
--- the plans of these headings, from the last to the first
-abbrev pub AreTheirs : List ℕ → List Plan → List Routine → Type 0
-AreTheirs text plans routines = map later_of (reverse plans) ≡ map (λ (p : Routine × Option Block). p.1) (planned text routines)
+-- the plans of these headings, from the last to the first, where so many routines have ended before them
+abbrev pub AreTheirs : List ℕ → ℕ → List Plan → List Routine → Type 0
+AreTheirs text before plans routines = map plan_of (reverse plans) ≡ map planned_of (planned text before routines)
 
-module _ (text : List ℕ) (routines : List Routine) (k : ℕ) where
-  pub routines_end : (s : Standing) → length routines ≤ k → RoutinesMay s (planned text (drop k routines)) (Ok s)
-  routines_end s h = subst (λ rs. RoutinesMay s (planned text rs) (Ok s)) (sym (drop_all k routines h)) no_more
+-- the plan of a heading is its own
+plan_has : (r : Routine) (before : ℕ) (own : Option Block) (later : Option Numbered) → (plan_by r before own later).routine ≡ r
+plan_has r before (Some b) later = refl
+plan_has r before None None = refl
+plan_has r before None (Some p) = refl
+
+planned_as : (r : Routine) (p : Plan) (q : Planned) → q.routine ≡ r → plan_of p ≡ planned_of q → planned_with r p ≡ q
+planned_as r p q own same = λ i. record { routine = (sym own) i; number = (same i).0; later = (same i).1 }
+
+module _ (text : List ℕ) (before : ℕ) (routines : List Routine) (k : ℕ) where
+  pub routines_end : (s : Standing) → length routines ≤ k → RoutinesMay s (planned text before (drop k routines)) (Ok s)
+  routines_end s h = subst (λ rs. RoutinesMay s (planned text before rs) (Ok s)) (sym (drop_all k routines h)) no_more
 
   module _ (r : Routine) (h : k < length routines) (e : r ≡ get_or routines k r) where
-    planned_next : planned text (drop k routines) ≡ (r, awaited_block text r (drop (k + 1) routines)) ∷ planned text (drop (k + 1) routines)
-    planned_next = ap (planned text) (drop_next routines k r h e)
+    abbrev plan : Planned
+    plan = plan_by r before (block_of r) (body_after text r before (drop (k + 1) routines))
+
+    abbrev after : List Planned
+    after = planned text (before + ends_of r) (drop (k + 1) routines)
+
+    planned_next : planned text before (drop k routines) ≡ plan ∷ after
+    planned_next = ap (planned text before) (drop_next routines k r h e)
 
     -- there is a plan for it
-    pub no_plan : (plans : List Plan) → length plans ≡ 0 → AreTheirs text plans (drop k routines) → ⊥
-    no_plan [] none same = cc (same ∙ ap (map (λ (q : Routine × Option Block). q.1)) planned_next)
+    pub no_plan : (plans : List Plan) → length plans ≡ 0 → AreTheirs text before plans (drop k routines) → ⊥
+    no_plan [] none same = cc (same ∙ ap (map planned_of) planned_next)
     no_plan (p ∷ plans) none same = omega arith
 
-    module _ (plans rest : List Plan) (p : Plan) (popped : plans ≡ rest ++ p ∷ []) (same : AreTheirs text plans (drop k routines)) where
-      both : later_of p ∷ map later_of (reverse rest) ≡ awaited_block text r (drop (k + 1) routines) ∷ map (λ (q : Routine × Option Block). q.1) (planned text (drop (k + 1) routines))
-      both = sym (ap (map later_of) (last_is plans rest p popped)) ∙ same ∙ ap (map (λ (q : Routine × Option Block). q.1)) planned_next
+    module _ (plans rest : List Plan) (p : Plan) (popped : plans ≡ rest ++ p ∷ []) (same : AreTheirs text before plans (drop k routines)) where
+      both : plan_of p ∷ map plan_of (reverse rest) ≡ planned_of plan ∷ map planned_of after
+      both = sym (ap (map plan_of) (last_is plans rest p popped)) ∙ same ∙ ap (map planned_of) planned_next
 
-      pub plans_go : AreTheirs text rest (drop (k + 1) routines)
+      pub plans_go : AreTheirs text (before + ends_of r) rest (drop (k + 1) routines)
       plans_go = cc both
 
-      with_its : (s : Standing) (o : Outcome Standing) → RoutineMay s r (later_of p) o → RoutineMay s r (awaited_block text r (drop (k + 1) routines)) o
-      with_its s o now = let same : later_of p ≡ awaited_block text r (drop (k + 1) routines) = cc both in subst (λ (l : Option Block). RoutineMay s r l o) same now
+      with_its : (s : Standing) (o : Outcome Standing) → RoutineMay s (planned_with r p) o → RoutineMay s plan o
+      with_its s o now =
+          let same : plan_of p ≡ planned_of plan = cc both in
+          subst (λ (q : Planned). RoutineMay s q o) (planned_as r p plan (plan_has r before (block_of r) (body_after text r before (drop (k + 1) routines))) same) now
 
-      pub routines_go : (s t : Standing) (o : Outcome Standing) → RoutineMay s r (later_of p) (Ok t) → RoutinesMay t (planned text (drop (k + 1) routines)) o → RoutinesMay s (planned text (drop k routines)) o
-      routines_go s t o now after = subst (λ ps. RoutinesMay s ps o) (sym planned_next) (goes_on (with_its s (Ok t) now) after)
+      pub routines_go : (s t : Standing) (o : Outcome Standing) → RoutineMay s (planned_with r p) (Ok t) → RoutinesMay t (planned text (before + ends_of r) (drop (k + 1) routines)) o → RoutinesMay s (planned text before (drop k routines)) o
+      routines_go s t o now rest_of = subst (λ ps. RoutinesMay s ps o) (sym planned_next) (goes_on (with_its s (Ok t) now) rest_of)
 
-      pub routines_stop : (s : Standing) (f : Fault) → RoutineMay s r (later_of p) (Err f) → RoutinesMay s (planned text (drop k routines)) (Err f)
+      pub routines_stop : (s : Standing) (f : Fault) → RoutineMay s (planned_with r p) (Err f) → RoutinesMay s (planned text before (drop k routines)) (Err f)
       routines_stop s f now = subst (λ ps. RoutinesMay s ps (Err f)) (sym planned_next) (stops_in (with_its s (Err f) now))
 
 -- a name is spelled
@@ -66,9 +84,9 @@ where_spelled v new old kept = ap (λ (m : Made). record { seen = v; built = m.b
 
 -- the same where the plans are made
 module _ (c : Seen) (routines : List Routine) where
-  pub plans_theirs : (plans : List Plan) → AreTheirs c.text.now plans routines → AreTheirs (sight c).text plans routines
+  pub plans_theirs : (before : ℕ) (plans : List Plan) → AreTheirs c.text.now before plans routines → AreTheirs (sight c).text before plans routines
   unfolding sight
-  plans_theirs plans h = h
+  plans_theirs before plans h = h
 
   pub lacking_theirs : (others : List Routine) → routines ≡ others → (lacking : Option ℕ) → lacking_by lacking ≡ bodies_given c.text.now routines → lacking_by lacking ≡ bodies_given (sight c).text others
   unfolding sight
@@ -101,6 +119,11 @@ forward_is text word bs b spelled test = ap (λ s. bytes_eq (str_to_ascii_lowerc
     by false true test is = sym (test.1 ((bytes_eq-Decides (str_to_ascii_lowercase bs) (codes "forward")).0 is))
     by false false test is = refl
 
+-- the heading is read, and then the word
+pub forward_by : (s : Standing) (p : Planned) (word : Span) (o : Outcome (Stage × Opened)) → heading_read s.at p.routine p.number p.later ≡ o → forward_read s p word ≡ (o >>= forwarded s p.routine word)
+unfolding forward_read
+forward_by s p word o is = ap (λ (q : Outcome (Stage × Opened)). q >>= (λ h. forwarded s p.routine word h)) is
+
 module _ (s : Standing) (r : Routine) (word : Span) (h : Stage × Opened) where
   pub word_refused : (f : Fault) → is_forward h.0.seen.text word ≡ false → f ≡ Broken rule.Kind word.start → forwarded s r word h ≡ Err f
   word_refused f other is = ap (λ b. unless {A = Standing} (not b) rule.Kind word.start (Ok (standing h.0 (waits s.waiting (name_at h.0.seen.text (out-Routine r).name) (Some h.1))))) other ∙ ap Err (sym is)
@@ -112,26 +135,36 @@ module _ (s : Standing) (r : Routine) (word : Span) (h : Stage × Opened) where
 
 -- ---- a heading with its block
 
+-- what holds where the walk stands
+pub at_hand : {A : Type 0} (now : A) (P : A → Type 0) → P now → (s : A) → s ≡ now → P s
+at_hand now P holds s is = subst P (sym is) holds
+
+pub opened_with : (s : Standing) (p : Planned) (b : Block) (o : Outcome (Standing × Opened)) → opened_by s p.routine b p.number (waits_for s p.routine) ≡ o → opened s p b ≡ o
+unfolding opened
+opened_with s p b o is = is
+
 module _ (s : Standing) (r : Routine) (b : Block) (number : ℕ) (x : Stage) (kept : x ≡ s.at) (name : Name) (spelled : name ≡ name_at s.at.seen.text (out-Routine r).name) where
-  waits_by : (o : Option Opened) → o ≡ with_word (out-Routine r).function (s.waiting name) → waits_for s r ≡ o
-  waits_by o is = ap (λ n. with_word (out-Routine r).function (s.waiting n)) (sym spelled) ∙ sym is
+  waits_by : (o : Option Opened) → o ≡ with_word (out-Routine r).function (s.waiting name) → opened_by s r b number (waits_for s r) ≡ opened_by s r b number o
+  waits_by o is = ap (opened_by s r b number) (ap (λ n. with_word (out-Routine r).function (s.waiting n)) (sym spelled) ∙ sym is)
 
   module _ (p : Opened) (taken : Some p ≡ with_word (out-Routine r).function (s.waiting name)) where
-    pub repeated_fails : (f : Fault) → repeated_heading (out-Routine r) ≡ Err f → OpenMay s r b number (Err f)
-    repeated_fails f is = awaited (waits_by (Some p) taken) (ap (λ (o : Outcome (Unit {0})). o >>= (λ done. Ok (standing s.at (waits s.waiting (name_at s.at.seen.text (out-Routine r).name) None), p))) is)
+    repeated_by : (o : Outcome (Unit {0})) → repeated_heading (out-Routine r) ≡ o
+        → opened_by s r b number (waits_for s r) ≡ (o >>= (λ done. Ok (standing s.at (waits s.waiting (name_at s.at.seen.text (out-Routine r).name) None), p)))
+    repeated_by o is = waits_by (Some p) taken ∙ ap (λ (q : Outcome (Unit {0})). q >>= (λ done. Ok (standing s.at (waits s.waiting (name_at s.at.seen.text (out-Routine r).name) None), p))) is
 
-    pub repeated_opens : (w : Name → Option Opened) → repeated_heading (out-Routine r) ≡ Ok tt → w ≡ waits s.waiting name None → OpenMay s r b number (Ok (standing x w, p))
+    pub repeated_fails : (f : Fault) → repeated_heading (out-Routine r) ≡ Err f → opened_by s r b number (waits_for s r) ≡ Err f
+    repeated_fails f is = repeated_by (Err f) is
+
+    pub repeated_opens : (w : Name → Option Opened) → repeated_heading (out-Routine r) ≡ Ok tt → w ≡ waits s.waiting name None → opened_by s r b number (waits_for s r) ≡ Ok (standing x w, p)
     repeated_opens w is out =
-        awaited (waits_by (Some p) taken)
-        (ap (λ (o : Outcome (Unit {0})). o >>= (λ done. Ok (standing s.at (waits s.waiting (name_at s.at.seen.text (out-Routine r).name) None), p))) is
-        ∙ ap (λ n. Ok (standing s.at (waits s.waiting n None), p)) (sym spelled) ∙ ap (λ u. Ok (standing s.at u, p)) (sym out) ∙ ap (λ y. Ok (standing y w, p)) (sym kept))
+        repeated_by (Ok tt) is ∙ ap (λ n. Ok (standing s.at (waits s.waiting n None), p)) (sym spelled) ∙ ap (λ u. Ok (standing s.at u, p)) (sym out) ∙ ap (λ y. Ok (standing y w, p)) (sym kept)
 
   module _ (none : None ≡ with_word (out-Routine r).function (s.waiting name)) where
-    before : (o : Outcome (Stage × Opened)) → HeadingMay x r number (Some b) o → HeadingMay s.at r number (Some b) o
-    before o now = subst (λ y. HeadingMay y r number (Some b) o) kept now
+    heading_by : (o : Outcome (Stage × Opened)) → heading_read x r number (Some b) ≡ o → opened_by s r b number (waits_for s r) ≡ (o >>= (λ h. Ok (standing h.0 s.waiting, h.1)))
+    heading_by o is = waits_by None none ∙ ap (λ (q : Outcome (Stage × Opened)). q >>= (λ h. Ok (standing h.0 s.waiting, h.1))) (ap (λ y. heading_read y r number (Some b)) (sym kept) ∙ is)
 
-    pub heading_fails : (f : Fault) → HeadingMay x r number (Some b) (Err f) → OpenMay s r b number (Err f)
-    heading_fails f now = in_heading (waits_by None none) (before (Err f) now)
+    pub heading_fails : (f : Fault) → heading_read x r number (Some b) ≡ Err f → opened_by s r b number (waits_for s r) ≡ Err f
+    heading_fails f is = heading_by (Err f) is
 
-    pub heading_opens : (w : Name → Option Opened) (h : Stage × Opened) → w ≡ s.waiting → HeadingMay x r number (Some b) (Ok h) → OpenMay s r b number (Ok (standing h.0 w, h.1))
-    heading_opens w h same now = subst (λ u. OpenMay s r b number (Ok (standing h.0 u, h.1))) (sym same) (opened (waits_by None none) (before (Ok h) now))
+    pub heading_opens : (w : Name → Option Opened) (h : Stage × Opened) → w ≡ s.waiting → heading_read x r number (Some b) ≡ Ok h → opened_by s r b number (waits_for s r) ≡ Ok (standing h.0 w, h.1)
+    heading_opens w h same is = heading_by (Ok h) is ∙ ap (λ u. Ok (standing h.0 u, h.1)) (sym same)
