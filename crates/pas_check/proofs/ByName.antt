@@ -1,5 +1,5 @@
 -- Values by names.
-use Rattle.std.proofs.Common.{◌≡◌, ℕ, Bool, true, false, cond, not, true≢false, List, [], ◌∷◌, refl, sym, ap, ◌∙◌, Option, Some, option_map, bytes_eq, Vec, Global}
+use Rattle.std.proofs.Common.{◌≡◌, ℕ, Bool, true, false, cond, not, true≢false, List, refl, sym, ap, ◌∙◌, Option, option_map, bytes_eq, Vec, Global}
 use Rattle.std.proofs.lemmas.Slice.Eq.{bytes_eq-Decides}
 use Rattle.std.specs.Bool.{beq}
 use Rattle.std.specs.Map.{lookup, KeepsOthers}

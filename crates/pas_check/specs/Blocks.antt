@@ -1,6 +1,6 @@
 -- Blocks and the routines in them (ISO 7185, 6.2 and 6.6), and what they may answer: where the walk stands after them, or the fault
 -- of the first rule that they break.
-use Rattle.std.specs.Prelude.{◌≡◌, ℕ, ◌+◌, ◌≤◌, nat_eq, pos, ◌-ℤ◌, Bool, true, false, ◌&&◌, not, List, [], ◌∷◌, map, length, codes, is_some, Option, Some, None, Ok, Err, if◌then◌else◌}
+use Rattle.std.specs.Prelude.{◌≡◌, ℕ, ◌+◌, ◌≤◌, pos, ◌-ℤ◌, Bool, true, false, ◌&&◌, not, List, [], ◌∷◌, map, length, codes, is_some, Option, Some, None, Ok, Err, if◌then◌else◌}
 use Rattle.std.specs.Bool.{beq}
 use Rattle.std.specs.Option.{option_copied, option_map}
 use Rattle.std.specs.Str.{bytes_eq, str_to_ascii_lowercase}

@@ -56,7 +56,15 @@ with_own name kind t b = record b { vars = b.vars ++ variable_of name b.frame.ro
 
 abbrev pub frame_of : Span → ℕ → Option ℕ → ℕ → List ℕ → Option ℕ → Frame
 frame_of name routine parent level formals result = record {
-  name = name; routine = routine; parent = parent; level = level; formals = formals; result = result; locals = []; slots = []; bounds = [];
+  name = name;
+  routine = routine;
+  parent = parent;
+  level = level;
+  formals = formals;
+  result = result;
+  locals = [];
+  slots = [];
+  bounds = [];
 }
 
 abbrev pub listed : Option ℕ → List ℕ

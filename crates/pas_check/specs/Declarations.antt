@@ -1,6 +1,6 @@
 -- The parts of a block that declare labels, constants, types and variables (ISO 7185, 6.2 to 6.5): what is seen after them, or the
 -- first rule that is broken.
-use Rattle.std.specs.Prelude.{◌≡◌, ℕ, ℤ, Bool, List, [], ◌∷◌, ◌++◌, length, Ok, Err, slice_get}
+use Rattle.std.specs.Prelude.{ℕ, ℤ, Bool, List, [], ◌∷◌, ◌++◌, length, Ok, slice_get}
 use Rattle.px_base.specs.declared.place.Span.{Span}
 use Rattle.pas_program.specs.declared.type_def.TypeDef.{TypeDef}
 use Rattle.pas_program.specs.declared.type_def.TypeDef.TheVariants.{Scalar, Array}

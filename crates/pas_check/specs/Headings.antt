@@ -1,6 +1,6 @@
 -- The heading of a routine (ISO 7185, 6.6.1 and 6.6.2): where the walk stands after it with what its block begins with, or the
 -- fault of the first rule that it breaks.
-use Rattle.std.specs.Prelude.{◌≡◌, ℕ, ◌+◌, List, [], ◌∷◌, ◌++◌, length, flat_map, Bool, Option, Some, None, Ok, Err}
+use Rattle.std.specs.Prelude.{ℕ, ◌+◌, List, [], ◌∷◌, ◌++◌, length, flat_map, Option, Some, None, Ok}
 use Rattle.std.specs.Option.{option_map}
 use Rattle.px_base.specs.declared.place.Span.{Span}
 use Rattle.pas_program.specs.declared.variable.VarKind.TheVariants as kind

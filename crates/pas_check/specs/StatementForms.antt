@@ -40,7 +40,6 @@ use Rattle.pas_check.specs.Expr.{callee_at, formals_at, meant}
 use Rattle.pas_check.specs.Forms.{Form, GivenForm, all_passed_form, expr_form, expression_form, given_form, operand_form, reached_form}
 use Rattle.pas_check.specs.Labels.{left_for}
 use Rattle.pas_check.specs.Names.{spelling}
-use Rattle.pas_check.specs.Outcome.{Outcome}
 use Rattle.pas_check.specs.Sight.{Sight}
 use Rattle.pas_check.specs.Statement.{target_by}
 use Rattle.pas_check.specs.Statements.{over}

@@ -84,10 +84,10 @@ routine_part-returns-in_err-routine t c = record {
 
 pub routine_part-loop-routine-preserved : goal.routine_part-loop-routine-preserved
 routine_part-loop-routine-preserved t c = λ first same.
-    let left = c.loop-routine.invariant first same in
-    (left.0 + ends_of c.routine-item.result,
-     plans_go (sight c.args.self.now.seen).text left.0 c.args.routines.now c.loop-routine.routine-index c.routine-item.result c.loop-routine-test.true c.routine-item.is c.loop-routine.plans.items c.pop.new.self.items c.in-Some.plan c.in-Some.ensures.items left.1,
-     λ o rest. left.2 o (routines_go (sight c.args.self.now.seen).text left.0 c.args.routines.now c.loop-routine.routine-index c.routine-item.result c.loop-routine-test.true c.routine-item.is c.loop-routine.plans.items c.pop.new.self.items c.in-Some.plan c.in-Some.ensures.items left.1 (standing (stage c.loop-routine.self) (waiting_of c.loop-routine.waiting)) (standing (stage c.routine.new.self) (waiting_of c.routine.new.waiting)) o c.in_ok-routine.ensures.value rest),
+    let left = c.loop-routine.invariant first same in (
+      left.0 + ends_of c.routine-item.result,
+      plans_go (sight c.args.self.now.seen).text left.0 c.args.routines.now c.loop-routine.routine-index c.routine-item.result c.loop-routine-test.true c.routine-item.is c.loop-routine.plans.items c.pop.new.self.items c.in-Some.plan c.in-Some.ensures.items left.1,
+      λ o rest. left.2 o (routines_go (sight c.args.self.now.seen).text left.0 c.args.routines.now c.loop-routine.routine-index c.routine-item.result c.loop-routine-test.true c.routine-item.is c.loop-routine.plans.items c.pop.new.self.items c.in-Some.plan c.in-Some.ensures.items left.1 (standing (stage c.loop-routine.self) (waiting_of c.loop-routine.waiting)) (standing (stage c.routine.new.self) (waiting_of c.routine.new.waiting)) o c.in_ok-routine.ensures.value rest),
     )
 
 pub routine_part-returns : goal.routine_part-returns

@@ -1,13 +1,11 @@
-use Rattle.std.proofs.Common.{◌≡◌, [], ap, rules, sym, ◌∙◌}
+use Rattle.std.proofs.Common.{◌≡◌, [], ap, rules, ◌∙◌}
 use Rattle.pas_check.specs.Block.{ends_inside}
 use Rattle.pas_check.specs.Blocks.{all_ended, at_first, program_frame, required}
-use Rattle.pas_check.specs.Built.{frame_of, nothing_built}
+use Rattle.pas_check.specs.Built.{nothing_built}
 use Rattle.pas_check.specs.Headings.{inside}
-use Rattle.pas_check.specs.Labels.{Labelled, labelled, unlabelled}
+use Rattle.pas_check.specs.Labels.{Labelled, labelled}
 use Rattle.pas_check.specs.Names.{Names}
-use Rattle.pas_check.specs.Sight.{Sight, sight}
-use Rattle.pas_check.specs.declared.built.Built.{Built}
-use Rattle.pas_check.specs.declared.frame.Frame.{Frame}
+use Rattle.pas_check.specs.Sight.{sight}
 use Rattle.pas_check.specs.declared.seen.Made.{Made}
 use Rattle.pas_check.proofs.checker.Checker.new.Goals as goal
 
