@@ -1,3 +1,4 @@
+pub mod BlockExamples
 pub mod Blocks
 pub mod ByName
 pub mod Calls
@@ -5,6 +6,7 @@ pub mod Constants
 pub mod Declarations
 pub mod Declared
 pub mod Formals
+pub mod FormExamples
 pub mod Forms
 pub mod Found
 pub mod Headings
@@ -22,6 +24,8 @@ pub mod ReachingLaw
 pub mod ReachingMarks
 pub mod ReachingNotes
 pub mod Routines
+pub mod SmallTrees
+pub mod StatementExamples
 pub mod StatementForms
 pub mod Statements
 pub mod Turns
