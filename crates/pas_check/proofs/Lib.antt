@@ -1,10 +1,12 @@
 pub mod Begins
+pub mod BlockExamples
 pub mod Blocks
 pub mod ByName
 pub mod Calls
 pub mod Constants
 pub mod Declarations
 pub mod Declared
+pub mod FormExamples
 pub mod Formals
 pub mod Forms
 pub mod Found
@@ -22,6 +24,8 @@ pub mod ReachingLaw
 pub mod ReachingMarks
 pub mod ReachingNotes
 pub mod Routines
+pub mod SmallTrees
+pub mod StatementExamples
 pub mod StatementForms
 pub mod Statements
 pub mod Turns
