@@ -32,11 +32,11 @@ use Rattle.pas_check.proofs.Passing.{drop_next}
 abbrev pub AreTheirs : List ℕ → ℕ → List Plan → List Routine → Type 0
 AreTheirs text before plans routines = map plan_of (reverse plans) ≡ map planned_of (planned text before routines)
 
--- the plan of a heading is its own
-plan_has : (r : Routine) (before : ℕ) (own : Option Block) (later : Option Numbered) → (plan_by r before own later).routine ≡ r
-plan_has r before (Some b) later = refl
-plan_has r before None None = refl
-plan_has r before None (Some p) = refl
+-- a heading is planned as itself
+plan_routine : (r : Routine) (before : ℕ) (own : Option Block) (later : Option Numbered) → (plan_by r before own later).routine ≡ r
+plan_routine r before (Some b) later = refl
+plan_routine r before None None = refl
+plan_routine r before None (Some p) = refl
 
 planned_as : (r : Routine) (p : Plan) (q : Planned) → q.routine ≡ r → plan_of p ≡ planned_of q → planned_with r p ≡ q
 planned_as r p q own same = λ i. record { routine = (sym own) i; number = (same i).0; later = (same i).1 }
@@ -70,7 +70,7 @@ module _ (text : List ℕ) (before : ℕ) (routines : List Routine) (k : ℕ) wh
       with_its : (s : Standing) (o : Outcome Standing) → RoutineMay s (planned_with r p) o → RoutineMay s plan o
       with_its s o now =
           let same : plan_of p ≡ planned_of plan = cc both in
-          subst (λ (q : Planned). RoutineMay s q o) (planned_as r p plan (plan_has r before (block_of r) (body_after text r before (drop (k + 1) routines))) same) now
+          subst (λ (q : Planned). RoutineMay s q o) (planned_as r p plan (plan_routine r before (block_of r) (body_after text r before (drop (k + 1) routines))) same) now
 
       pub routines_go : (s t : Standing) (o : Outcome Standing) → RoutineMay s (planned_with r p) (Ok t) → RoutinesMay t (planned text (before + ends_of r) (drop (k + 1) routines)) o → RoutinesMay s (planned text before (drop k routines)) o
       routines_go s t o now rest_of = subst (λ ps. RoutinesMay s ps o) (sym planned_next) (goes_on (with_its s (Ok t) now) rest_of)
@@ -139,9 +139,9 @@ module _ (s : Standing) (r : Routine) (word : Span) (h : Stage × Opened) where
 pub at_hand : {A : Type 0} (now : A) (P : A → Type 0) → P now → (s : A) → s ≡ now → P s
 at_hand now P holds s is = subst P (sym is) holds
 
-pub opened_with : (s : Standing) (p : Planned) (b : Block) (o : Outcome (Standing × Opened)) → opened_by s p.routine b p.number (waits_for s p.routine) ≡ o → opened s p b ≡ o
+pub opened_as : (s : Standing) (p : Planned) (b : Block) (o : Outcome (Standing × Opened)) → opened_by s p.routine b p.number (waits_for s p.routine) ≡ o → opened s p b ≡ o
 unfolding opened
-opened_with s p b o is = is
+opened_as s p b o is = is
 
 module _ (s : Standing) (r : Routine) (b : Block) (number : ℕ) (x : Stage) (kept : x ≡ s.at) (name : Name) (spelled : name ≡ name_at s.at.seen.text (out-Routine r).name) where
   waits_by : (o : Option Opened) → o ≡ with_word (out-Routine r).function (s.waiting name) → opened_by s r b number (waits_for s r) ≡ opened_by s r b number o

@@ -6,7 +6,7 @@ use Rattle.pas_check.specs.Sight.{sight}
 use Rattle.pas_check.specs.Stage.{Stage, stage}
 use Rattle.pas_check.proofs.Blocks.{block_in_routines, block_to_end, meets_all, meets_by, meets_given}
 use Rattle.pas_check.proofs.Declarations.{meets_wrong}
-use Rattle.pas_check.proofs.Routines.{lacking_theirs, no_plan, opened_with, plans_go, plans_theirs, routines_end, routines_go, routines_stop}
+use Rattle.pas_check.proofs.Routines.{lacking_theirs, no_plan, opened_as, plans_go, plans_theirs, routines_end, routines_go, routines_stop}
 use Rattle.pas_check.proofs.checker.Checker.+block.Goals as goal
 
 pub block-returns-in_err-outer : goal.block-returns-in_err-outer
@@ -45,7 +45,7 @@ pub routine-returns-in_err-opened-in-Block : goal.routine-returns-in_err-opened-
 routine-returns-in_err-opened-in-Block t c =
     let s = standing (stage c.args.self.now) (waiting_of c.args.waiting.now) in
     let p = planned_with c.args.routine.now c.args.plan in record {
-      value = meets_wrong {B = Standing} _ (RoutineMay s p) c.from_residual.result c.in_err-opened-in-Block.field-0.0 (search rules) (λ own. not_opened c.in-Block.block c.in-Block.is (opened_with s p c.in-Block.block (Err c.in_err-opened-in-Block.field-0.0) (c.in_err-opened-in-Block.ensures.value s refl own)));
+      value = meets_wrong {B = Standing} _ (RoutineMay s p) c.from_residual.result c.in_err-opened-in-Block.field-0.0 (search rules) (λ own. not_opened c.in-Block.block c.in-Block.is (opened_as s p c.in-Block.block (Err c.in_err-opened-in-Block.field-0.0) (c.in_err-opened-in-Block.ensures.value s refl own)));
     }
 
 pub routine-returns-in-Word : goal.routine-returns-in-Word
@@ -60,7 +60,7 @@ routine-returns-in_ok-opened-in-Block t c =
     let s = standing (stage c.args.self.now) (waiting_of c.args.waiting.now) in
     let now = standing (stage c.opened.new.self) (waiting_of c.opened.new.waiting) in
     let p = planned_with c.args.routine.now c.args.plan in
-    let is = opened_with s p c.in-Block.block (Ok (now, c.in_ok-opened-in-Block.opened)) (c.in_ok-opened-in-Block.ensures.value s refl) in record {
+    let is = opened_as s p c.in-Block.block (Ok (now, c.in_ok-opened-in-Block.opened)) (c.in_ok-opened-in-Block.ensures.value s refl) in record {
       value = meets_by _ (BlockMay (stage c.opened.new.self) c.in_ok-opened-in-Block.opened c.in-Block.block) _ (RoutineMay s p) c.block.result
           (λ a now. whole_block c.in-Block.block c.in-Block.is is now)
           (λ e now. in_block c.in-Block.block c.in-Block.is is now)
@@ -78,7 +78,7 @@ pub routine_part-returns-in_err-routine : goal.routine_part-returns-in_err-routi
 routine_part-returns-in_err-routine t c = record {
   value = λ first same.
       let left = c.loop-routine.invariant first same in
-      meets_wrong {B = Standing} _ (RoutinesMay (standing (stage c.args.self.now) (waiting_of c.args.waiting.now)) (planned (sight c.args.self.now.seen).text first c.args.routines.now)) c.from_residual.result c.in_err-routine.field-0.0 (search rules) (λ own.
+      meets_wrong (λ (u : Unit {0}). standing (stage c.routine.new.self) (waiting_of c.routine.new.waiting)) (RoutinesMay (standing (stage c.args.self.now) (waiting_of c.args.waiting.now)) (planned (sight c.args.self.now.seen).text first c.args.routines.now)) c.from_residual.result c.in_err-routine.field-0.0 (search rules) (λ own.
       left.2 (Err c.in_err-routine.field-0.0) (routines_stop (sight c.args.self.now.seen).text left.0 c.args.routines.now c.loop-routine.routine-index c.routine-item.result c.loop-routine-test.true c.routine-item.is c.loop-routine.plans.items c.pop.new.self.items c.in-Some.plan c.in-Some.ensures.items left.1 (standing (stage c.loop-routine.self) (waiting_of c.loop-routine.waiting)) c.in_err-routine.field-0.0 (c.in_err-routine.ensures.value own)));
 }
 
