@@ -37,15 +37,12 @@ use Rattle.pas_check.specs.Outcome.{Outcome, each}
 use Rattle.pas_check.specs.Sight.{Sight}
 use Rattle.pas_check.specs.Statement.{target_by}
 use Rattle.pas_check.specs.StatementForms.{assigned_form, assignment_form, call_form, called_form, constants_form, constant_value, item_form, procedure_form, read_form, reads_form, target_form, unquoted, value_assigned_form, width_form, writes_form, written_form}
+use Rattle.pas_check.proofs.Forms.{given_form_value, value_form_of_expression}
 use Rattle.pas_check.proofs.Turns.{each_goes, each_map}
 
 -- ---- actuals, one level at a time
 
 module _ (v : Sight) where
-  pub given_form_value : (a : Actual) → (given_form v a).value ≡ actual_value_form v (out-Actual a).value
-  unfolding expr_form access_form given_form actual_value_form
-  given_form_value a = ap (λ (g : GivenForm). g.value) (fold_out-Actual (Result Form Span) Form (Builds Reached) GivenForm value_step (expr_step v) (access_step v) actual_step a)
-
   width_step : (value : ActualValue) (width : Option Expr)
       → (actual_step (map-Actual ActualValue Expr Access Actual (Result Form Span) Form (Builds Reached) GivenForm (actual_value_form v) (expr_form v) (access_form v) (given_form v) (record { value = value; width = width }))).width
       ≡ option_map (expr_form v) width
@@ -57,12 +54,6 @@ module _ (v : Sight) where
   given_form_width a =
       ap (λ (g : GivenForm). g.width) (fold_out-Actual (Result Form Span) Form (Builds Reached) GivenForm value_step (expr_step v) (access_step v) actual_step a)
       ∙ width_step (out-Actual a).value (out-Actual a).width
-
-  pub form_of_expression : (e : Expr) → actual_value_form v (actual_value.Value e) ≡ Ok (expr_form v e)
-  unfolding expr_form access_form given_form actual_value_form
-  form_of_expression e =
-      ap (actual_value_form v) (sym (actual_value.rolls-Value e))
-      ∙ fold-roll-ActualValue (Result Form Span) Form (Builds Reached) GivenForm value_step (expr_step v) (access_step v) actual_step (ActualValue-F.Value e)
 
   pub form_of_text : (span : Span) → actual_value_form v (actual_value.«Text» span) ≡ Err span
   unfolding expr_form access_form given_form actual_value_form
@@ -102,7 +93,7 @@ pub value_form_is : (v : Sight) (value : ActualValue) (e : Expr) (b c : Built) (
     → written_form v (actual_value_form v value) b ≡ Some (item.Value x, c)
 unfolding written_form
 value_form_is v value e b c x is operand =
-    ap (λ y. written_form v y b) (ap (actual_value_form v) is ∙ form_of_expression v e)
+    ap (λ y. written_form v y b) (ap (actual_value_form v) is ∙ value_form_of_expression v e)
     ∙ part_is (operand_form (expr_form v e) b) (λ y. Some (item.Value y.0, y.1)) (x, c) (Some (item.Value x, c)) operand refl
 
 pub text_form_is : (v : Sight) (value : ActualValue) (span : Span) (b : Built) (bytes : List ℕ) → value ≡ actual_value.«Text» span → bytes ≡ unquoted (spelling v.text span)

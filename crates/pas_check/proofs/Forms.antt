@@ -21,29 +21,17 @@ use Rattle.pas_check.specs.Expr.{others, variable_named}
 use Rattle.pas_check.specs.Forms.{Form, GivenForm, access_by, access_form, access_of, access_step, actual_step, actual_value_form, all_passed_form, expr_form, expr_step, given_form, operand_form, passed_form, reached_form, subscripts_form, value_step}
 use Rattle.pas_check.specs.Outcome.{Outcome}
 use Rattle.pas_check.specs.Sight.{Sight, parts_at}
+use Rattle.pas_check.proofs.InOrder.{after, after_more, after_nothing}
 use Rattle.pas_check.proofs.Passing.{drop_next, first_drop, others_drop}
 
--- the actuals that were built before, and then the others
-abbrev pub after_actuals : List built_actual.Actual → Option (List built_actual.Actual × Built) → Option (List built_actual.Actual × Built)
-after_actuals ys None = None
-after_actuals ys (Some p) = Some (ys ++ p.0, p.1)
-
--- the same of subscripts, with the type that they lead to
+-- the subscripts that were built before, and then the others, with the type that they lead to
 abbrev pub after_subscripts : List built_expr.Expr → Option ((List built_expr.Expr × ℕ) × Built) → Option ((List built_expr.Expr × ℕ) × Built)
 after_subscripts ys None = None
 after_subscripts ys (Some p) = Some ((ys ++ p.0.0, p.0.1), p.1)
 
-after_no_actuals : (o : Option (List built_actual.Actual × Built)) → o ≡ after_actuals [] o
-after_no_actuals None = refl
-after_no_actuals (Some p) = refl
-
 after_no_subscripts : (o : Option ((List built_expr.Expr × ℕ) × Built)) → o ≡ after_subscripts [] o
 after_no_subscripts None = refl
 after_no_subscripts (Some p) = refl
-
-one_more_actual : (ys : List built_actual.Actual) (y : built_actual.Actual) (o : Option (List built_actual.Actual × Built)) → after_actuals ys (o >>= (λ zs. Some (y ∷ zs.0, zs.1))) ≡ after_actuals (ys ++ y ∷ []) o
-one_more_actual ys y None = refl
-one_more_actual ys y (Some p) = ap (λ zs. Some (zs, p.1)) (sym (append_assoc ys (y ∷ []) p.0))
 
 one_more_subscript : (ys : List built_expr.Expr) (y : built_expr.Expr) (o : Option ((List built_expr.Expr × ℕ) × Built)) → after_subscripts ys (o >>= (λ zs. Some ((y ∷ zs.0.0, zs.0.1), zs.1))) ≡ after_subscripts (ys ++ y ∷ []) o
 one_more_subscript ys y None = refl
@@ -69,25 +57,25 @@ module _ (v : Sight) where
 
   -- ---- actuals, one after the other
 
-  pub actuals_begin : (formals : List Formal) (actuals : List Actual) (b : Built) → all_passed_form formals (map (given_form v) actuals) b ≡ after_actuals [] (all_passed_form (drop 0 formals) (map (given_form v) (drop 0 actuals)) b)
-  actuals_begin formals actuals b = after_no_actuals (all_passed_form formals (map (given_form v) actuals) b)
+  pub actuals_begin : (formals : List Formal) (actuals : List Actual) (b : Built) → all_passed_form formals (map (given_form v) actuals) b ≡ after [] (all_passed_form (drop 0 formals) (map (given_form v) (drop 0 actuals)) b)
+  actuals_begin formals actuals b = after_nothing (all_passed_form formals (map (given_form v) actuals) b)
 
   pub actuals_go : (start : Option (List built_actual.Actual × Built)) (ys : List built_actual.Actual) (formals : List Formal) (actuals : List Actual) (k : ℕ) (a : Actual) (b : Built) (y : built_actual.Actual) (c : Built)
-      → start ≡ after_actuals ys (all_passed_form (drop k formals) (map (given_form v) (drop k actuals)) b) → k < length actuals → a ≡ get_or actuals k a → passed_form (slice_get formals k) (given_form v a) b ≡ Some (y, c)
-      → start ≡ after_actuals (ys ++ y ∷ []) (all_passed_form (drop (k + 1) formals) (map (given_form v) (drop (k + 1) actuals)) c)
+      → start ≡ after ys (all_passed_form (drop k formals) (map (given_form v) (drop k actuals)) b) → k < length actuals → a ≡ get_or actuals k a → passed_form (slice_get formals k) (given_form v a) b ≡ Some (y, c)
+      → start ≡ after (ys ++ y ∷ []) (all_passed_form (drop (k + 1) formals) (map (given_form v) (drop (k + 1) actuals)) c)
   actuals_go start ys formals actuals k a b y c so h e is =
       let more : suc k ≡ k + 1 = omega arith in
       let rest = map (given_form v) (drop (k + 1) actuals) in
-      so ∙ ap (λ zs. after_actuals ys (all_passed_form (drop k formals) (map (given_form v) zs) b)) (drop_next actuals k a h e)
-      ∙ ap (λ f. after_actuals ys (passed_form f (given_form v a) b >>= (λ x. all_passed_form (others (drop k formals)) rest x.1 >>= (λ xs. Some (x.0 ∷ xs.0, xs.1))))) (first_drop formals k)
-      ∙ ap (λ (o : Option (built_actual.Actual × Built)). after_actuals ys (o >>= (λ x. all_passed_form (others (drop k formals)) rest x.1 >>= (λ xs. Some (x.0 ∷ xs.0, xs.1))))) is
-      ∙ one_more_actual ys y (all_passed_form (others (drop k formals)) rest c)
-      ∙ ap (λ fs. after_actuals (ys ++ y ∷ []) (all_passed_form fs rest c)) (others_drop formals k ∙ ap (λ n. drop n formals) more)
+      so ∙ ap (λ zs. after ys (all_passed_form (drop k formals) (map (given_form v) zs) b)) (drop_next actuals k a h e)
+      ∙ ap (λ f. after ys (passed_form f (given_form v a) b >>= (λ x. all_passed_form (others (drop k formals)) rest x.1 >>= (λ xs. Some (x.0 ∷ xs.0, xs.1))))) (first_drop formals k)
+      ∙ ap (λ (o : Option (built_actual.Actual × Built)). after ys (o >>= (λ x. all_passed_form (others (drop k formals)) rest x.1 >>= (λ xs. Some (x.0 ∷ xs.0, xs.1))))) is
+      ∙ after_more ys y (all_passed_form (others (drop k formals)) rest c)
+      ∙ ap (λ fs. after (ys ++ y ∷ []) (all_passed_form fs rest c)) (others_drop formals k ∙ ap (λ n. drop n formals) more)
 
   pub actuals_end : (start : Option (List built_actual.Actual × Built)) (ys : List built_actual.Actual) (formals : List Formal) (actuals : List Actual) (k : ℕ) (b : Built)
-      → start ≡ after_actuals ys (all_passed_form (drop k formals) (map (given_form v) (drop k actuals)) b) → length actuals ≤ k → start ≡ Some (ys, b)
+      → start ≡ after ys (all_passed_form (drop k formals) (map (given_form v) (drop k actuals)) b) → length actuals ≤ k → start ≡ Some (ys, b)
   actuals_end start ys formals actuals k b so h =
-      so ∙ ap (λ zs. after_actuals ys (all_passed_form (drop k formals) (map (given_form v) zs) b)) (drop_all k actuals h) ∙ ap (λ zs. Some (zs, b)) (append-nil ys)
+      so ∙ ap (λ zs. after ys (all_passed_form (drop k formals) (map (given_form v) zs) b)) (drop_all k actuals h) ∙ ap (λ zs. Some (zs, b)) (append-nil ys)
 
   -- ---- subscripts, one after the other
 

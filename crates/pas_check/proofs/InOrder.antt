@@ -10,11 +10,11 @@ abbrev pub after : {B : Type 0} → List B → Option (List B × Built) → Opti
 after ys None = None
 after ys (Some p) = Some (ys ++ p.0, p.1)
 
-after_nothing : {B : Type 0} (o : Option (List B × Built)) → o ≡ after [] o
+pub after_nothing : {B : Type 0} (o : Option (List B × Built)) → o ≡ after [] o
 after_nothing None = refl
 after_nothing (Some p) = refl
 
-after_more : {B : Type 0} (ys : List B) (y : B) (o : Option (List B × Built)) → after ys (o >>= (λ zs. Some (y ∷ zs.0, zs.1))) ≡ after (ys ++ y ∷ []) o
+pub after_more : {B : Type 0} (ys : List B) (y : B) (o : Option (List B × Built)) → after ys (o >>= (λ zs. Some (y ∷ zs.0, zs.1))) ≡ after (ys ++ y ∷ []) o
 after_more ys y None = refl
 after_more ys y (Some p) = ap (λ zs. Some (zs, p.1)) (sym (append_assoc ys (y ∷ []) p.0))
 

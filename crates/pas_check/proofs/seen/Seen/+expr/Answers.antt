@@ -7,7 +7,8 @@ use Rattle.pas_check.specs.Forms.{all_passed_form, expr_form, given_form, passed
 use Rattle.pas_check.specs.Outcome.{Gives, Outcome, ◌>>=◌}
 use Rattle.pas_check.specs.Sight.{sight}
 use Rattle.pas_check.specs.Written.{Written, writes_in_turn, written}
-use Rattle.pas_check.proofs.Forms.{access_form_by, actuals_begin, actuals_end, actuals_go, after_actuals, after_subscripts, reached_by, subscripts_begin, subscripts_end, subscripts_go}
+use Rattle.pas_check.proofs.InOrder.{after}
+use Rattle.pas_check.proofs.Forms.{access_form_by, actuals_begin, actuals_end, actuals_go, after_subscripts, reached_by, subscripts_begin, subscripts_end, subscripts_go}
 use Rattle.pas_check.proofs.Found.{access_writes, accessed_by, call_is_no_variable}
 use Rattle.pas_check.proofs.Passing.{gives_wrong, led_fails, led_goes, led_stops, passed_next, passed_writes_next, reached_fails, writes_next}
 use Rattle.pas_check.proofs.seen.Seen.+expr.Goals as goal
@@ -60,7 +61,7 @@ actuals-loop-k-init t c = record {
   form =
       let v = sight c.args.self.now in
       let formals = formals_at v c.args.head in
-      actuals_begin v formals c.args.actuals.now c.args.made.now.built ∙ ap (λ ys. after_actuals ys (all_passed_form formals (map (given_form v) c.args.actuals.now) c.args.made.now.built)) (sym c.new-list.ensures);
+      actuals_begin v formals c.args.actuals.now c.args.made.now.built ∙ ap (λ ys. after ys (all_passed_form formals (map (given_form v) c.args.actuals.now) c.args.made.now.built)) (sym c.new-list.ensures);
 }
 
 pub reached-loop-subscript-init : goal.reached-loop-subscript-init
@@ -88,19 +89,19 @@ actuals-loop-k-preserved t c =
     let v = sight c.args.self.now in
     let formals = formals_at v c.args.head in
     let rest = all_passed v (drop (c.loop-k.k + 1) formals) (map (given v) (drop (c.loop-k.k + 1) c.args.actuals.now)) in
-    let after = all_passed_writes v (drop (c.loop-k.k + 1) formals) (map (given v) (drop (c.loop-k.k + 1) c.args.actuals.now)) in record {
+    let others_write = all_passed_writes v (drop (c.loop-k.k + 1) formals) (map (given v) (drop (c.loop-k.k + 1) c.args.actuals.now)) in record {
       passed =
           c.loop-k.invariant.passed ∙ passed_next v formals c.args.actuals.now c.loop-k.k c.index-actuals-k.result c.loop-k-test.true c.index-actuals-k.is
           ∙ ap (λ f. passed v f (given v c.index-actuals-k.result) >>= (λ done. rest)) (sym c.formal.ensures)
           ∙ ap (λ o. o >>= (λ done. rest)) c.in_ok-passed.ensures.value;
       writes =
           c.loop-k.invariant.writes ∙ passed_writes_next v formals c.args.actuals.now c.loop-k.k c.index-actuals-k.result (written c.loop-k.made) c.loop-k-test.true c.index-actuals-k.is
-          ∙ ap (λ f. after (passed_writes v f (given v c.index-actuals-k.result) (written c.loop-k.made))) (sym c.formal.ensures)
-          ∙ ap after (sym c.in_ok-passed.ensures.writes);
+          ∙ ap (λ f. others_write (passed_writes v f (given v c.index-actuals-k.result) (written c.loop-k.made))) (sym c.formal.ensures)
+          ∙ ap others_write (sym c.in_ok-passed.ensures.writes);
       form =
           let all = all_passed_form formals (map (given_form v) c.args.actuals.now) c.args.made.now.built in
           let pushed : c.push.new.self ≡ c.loop-k.list ++ c.in_ok-passed.passed ∷ [] = search rules in
-          subst (λ ys. all ≡ after_actuals ys (all_passed_form (drop (c.loop-k.k + 1) formals) (map (given_form v) (drop (c.loop-k.k + 1) c.args.actuals.now)) c.passed.new.made.built)) (sym pushed)
+          subst (λ ys. all ≡ after ys (all_passed_form (drop (c.loop-k.k + 1) formals) (map (given_form v) (drop (c.loop-k.k + 1) c.args.actuals.now)) c.passed.new.made.built)) (sym pushed)
           (actuals_go v all c.loop-k.list formals c.args.actuals.now c.loop-k.k c.index-actuals-k.result c.loop-k.made.built c.in_ok-passed.passed c.passed.new.made.built c.loop-k.invariant.form c.loop-k-test.true c.index-actuals-k.is
           (ap (λ f. passed_form f (given_form v c.index-actuals-k.result) c.loop-k.made.built) (sym c.formal.ensures) ∙ c.in_ok-passed.ensures.form));
     }
