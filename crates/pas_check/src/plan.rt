@@ -142,12 +142,15 @@ fn push(numbers: &mut Vec<u32>, number: u32) -> Result<(), AllocError>
     Ok(())
 }
 
-/// The number of the routine of a heading with a block, before which so many routines end. A heading without a block has any.
-fn own_number(before: u32, routine: &Routine) -> Result<u32, AllocError>
+/// The number of the routine of a heading with a block, before which so many routines end, where so many end in it, itself
+/// included. A heading without a block has any.
+#[tactic(auto, unfolding(crate::specs::Block::ends_inside, crate::specs::Block::ends_of))]
+fn own_number(before: u32, ends: u32, routine: &Routine) -> Result<u32, AllocError>
+    requires { ends ≡ ends_of routine.now }
     ensures { IfOk result (λ n. n ≡ spec.own_number before (block_of routine.now)) }
 {
     match &routine.body {
-        RoutineBody::Block(block) => sum(before, count_bodies(block)?),
+        RoutineBody::Block(_) => sum(before, ends - 1),
         RoutineBody::Word(_) => Ok(before),
     }
 }
@@ -159,8 +162,9 @@ fn numbers(alloc: Global, first: u32, routines: &[Routine]) -> Result<Vec<u32>, 
     let mut numbers = Vec::new(alloc);
     let mut before = first;
     for routine in routines {
-        push(&mut numbers, own_number(before, routine)?)?;
-        before = sum(before, count_routine(routine)?)?;
+        let ends = count_routine(routine)?;
+        push(&mut numbers, own_number(before, ends, routine)?)?;
+        before = sum(before, ends)?;
     }
     Ok(numbers)
 }

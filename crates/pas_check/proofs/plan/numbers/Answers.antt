@@ -9,8 +9,8 @@ loop-routine-init c = ap (λ ns. ns ++ numbers_from c.args.first c.args.routines
 pub loop-routine-preserved : goal.loop-routine-preserved
 loop-routine-preserved c =
     numbers_next c.args.routines.now c.loop-routine.routine-index c.routine-item.result c.loop-routine.numbers.items c.push.new.numbers.items (numbers_from c.args.first c.args.routines.now)
-    c.loop-routine.before c.in_ok-own_number.field-0 c.in_ok-count_routine.field-0 c.in_ok-before.before
-    c.loop-routine.invariant c.loop-routine-test.true c.routine-item.is c.in_ok-own_number.ensures c.in_ok-push.ensures c.in_ok-count_routine.ensures c.in_ok-before.ensures
+    c.loop-routine.before c.in_ok-own_number.field-0 c.in_ok-ends.ends c.in_ok-before.before
+    c.loop-routine.invariant c.loop-routine-test.true c.routine-item.is c.in_ok-own_number.ensures c.in_ok-push.ensures c.in_ok-ends.ensures c.in_ok-before.ensures
 
 pub returns : goal.returns
 returns c = numbers_end c.args.routines.now c.loop-routine.routine-index c.loop-routine.numbers.items (numbers_from c.args.first c.args.routines.now) c.loop-routine.before c.loop-routine.invariant c.loop-routine-test.false
