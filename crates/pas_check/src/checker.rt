@@ -8,8 +8,6 @@ ghost use Rattle.pas_check.specs.Labels.{labelled, unlabelled};
 ghost use Rattle.pas_check.specs.Outcome.{IsMemory};
 ghost use Rattle.pas_check.specs.Sight.{sight};
 ghost use Rattle.pas_check.specs.Stage.{stage};
-ghost use Rattle.pas_program.specs.Checked.{tables};
-ghost use Rattle.pas_program.specs.Labels.{AssertsStand, ConstantsDiffer, ControlsAreLocal, LabelsStand};
 
 use crate::built::Built;
 use crate::fault::{CheckFault, Fault};
@@ -42,10 +40,6 @@ pub fn check(alloc: Global, text: &[u8], tree: &Tree) -> Result<Program, CheckFa
     ensures fault { IfErr result (λ e. IsWithin (length text.now) e) }
     ensures sound { IfErr result (λ e. IsSound text.now tree.now e) }
     ensures program { IfOk result (λ p. IsProgramOf text.now tree.now p) }
-    ensures controls { IfOk result (λ p. ControlsAreLocal (tables p) p.routines) }
-    ensures labels { IfOk result (λ p. LabelsStand p.routines) }
-    ensures constants { IfOk result (λ p. ConstantsDiffer p.routines) }
-    ensures assertions { IfOk result (λ p. AssertsStand p.routines p.asserts) }
 {
     match checked(alloc, text, tree) {
         Ok(program) => Ok(program),
@@ -56,10 +50,6 @@ pub fn check(alloc: Global, text: &[u8], tree: &Tree) -> Result<Program, CheckFa
 fn checked(alloc: Global, text: &[u8], tree: &Tree) -> Result<Program, Fault>
     ensures sound { IfErr result (λ e. IsSoundFault text.now tree.now e) }
     ensures program { IfOk result (λ p. IsProgramOf text.now tree.now p) }
-    ensures controls { IfOk result (λ p. ControlsAreLocal (tables p) p.routines) }
-    ensures labels { IfOk result (λ p. LabelsStand p.routines) }
-    ensures constants { IfOk result (λ p. ConstantsDiffer p.routines) }
-    ensures assertions { IfOk result (λ p. AssertsStand p.routines p.asserts) }
 {
     let mut checker = Checker::new(alloc, text, tree)?;
     checker.program(tree)?;
@@ -127,10 +117,6 @@ impl<'t> Checker<'t> {
         ensures vars { IfOk result (λ p. p.vars ≡ self.entry.made.built.vars) }
         ensures routines { IfOk result (λ p. p.routines ≡ self.entry.made.built.routines) }
         ensures asserts { IfOk result (λ p. p.asserts ≡ self.entry.made.built.asserts) }
-        ensures controls { IfOk result (λ p. ControlsAreLocal (tables p) p.routines) }
-        ensures labels { IfOk result (λ p. LabelsStand p.routines) }
-        ensures constants { IfOk result (λ p. ConstantsDiffer p.routines) }
-        ensures assertions { IfOk result (λ p. AssertsStand p.routines p.asserts) }
     {
         let Checker { seen, made } = self;
         let Seen { alloc, types, .. } = seen;

@@ -1,23 +1,19 @@
 -- Which rules get weaker when a program's lists grow, and what growing is.
-use Rattle.std.proofs.Common.{◌≡◌, ℕ, zero, suc, ◌<◌, ◌≤◌, Bool, true, ◌&&◌, ◌||◌, List, [], ◌∷◌, ◌++◌, length, nat_lt, nat_eq, refl, sym, ap, ◌∙◌, inl, inr, Option, Some, None, arith}
-use Rattle.std.proofs.lemmas.Bool.{and_parts, and_from, or_cases, or_left, or_right, ltb-true, lt-ltb, true≢false}
-use Rattle.std.proofs.lemmas.List.{length-append}
+use Rattle.std.proofs.Common.{◌≡◌, ℕ, zero, suc, ◌≤◌, true, ◌&&◌, List, ◌++◌, nat_lt, nat_eq, refl, ap, ◌∙◌, inl, inr, Option, Some, None, arith}
+use Rattle.std.proofs.lemmas.Bool.{and_parts, and_from, or_cases, or_left, or_right, ltb-true, lt-ltb}
 use Rattle.std.proofs.lemmas.Option.{none-some}
 use Rattle.std.specs.List.{slice_get}
 use Rattle.std.specs.Option.{option_map}
 use Rattle.pas_program.specs.declared.routine.Routine.{Routine}
 use Rattle.pas_program.specs.declared.type_def.TypeDef.{TypeDef}
-use Rattle.pas_program.specs.declared.type_def.TypeDef.TheVariants.{Scalar, Array}
 use Rattle.pas_program.specs.declared.variable.VarDef.{VarDef}
 use Rattle.pas_program.specs.declared.variable.VarKind.{VarKind}
 use Rattle.pas_program.specs.declared.variable.VarKind.TheVariants as kind
-use Rattle.pas_program.specs.Each.{Rule}
 use Rattle.pas_program.specs.Scopes.{scope_rule}
 use Rattle.pas_program.specs.Tables.{Tables, Head, Grows, tables_of, head_of, holds_of, leads_within, is_around, is_visible, is_callable, is_own, is_kind}
-use Rattle.pas_program.specs.Types.{TypesFit, type_fits, is_scalar, layout, count_values}
 use Rattle.pas_program.specs.Valid.{Counts, number_rule}
 use Rattle.pas_program.proofs.Grown.{holds_kept}
-use Rattle.pas_program.proofs.Layouts.{slice_get-append, layout-append}
+use Rattle.pas_program.proofs.Layouts.{slice_get-append}
 use Rattle.pas_program.proofs.Weaker.{Weaker}
 
 -- ---- growing

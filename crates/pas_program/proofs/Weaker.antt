@@ -14,7 +14,7 @@ use Rattle.pas_program.specs.declared.expr.ExprForm.{ExprForm}
 use Rattle.pas_program.specs.declared.statement.Arm.{Arm}
 use Rattle.pas_program.specs.declared.statement.Body.{Body}
 use Rattle.pas_program.specs.declared.statement.Body.TheOpen.{Arm-F, Body-F, Statement-F}
-use Rattle.pas_program.specs.declared.statement.Body.TheFolds.{fold-Arm, fold-roll-Arm, fold-roll-Body, fold-roll-Statement, fold_out-Arm, ind-Arm, ind-Body, ind-Statement, map-Arm, map-Body, map-Statement}
+use Rattle.pas_program.specs.declared.statement.Body.TheFolds.{fold-roll-Arm, fold-roll-Body, fold-roll-Statement, fold_out-Arm, ind-Statement, map-Arm, map-Body, map-Statement}
 use Rattle.pas_program.specs.declared.statement.Body.TheViews.{roll-Arm, roll-Body, roll-Statement, out-Arm}
 use Rattle.pas_program.specs.declared.statement.Statement.{Statement}
 use Rattle.pas_program.specs.declared.statement.WriteItem.{WriteItem}

@@ -1,5 +1,4 @@
--- What labels, control variables, the constants of a `case` and assertions ask beyond types and scopes. Each is a
--- statement of its own, and no part of what `Program` holds by itself.
+-- What labels, control variables, the constants of a `case` and assertions ask beyond types and scopes.
 use Rattle.std.specs.Prelude.{◌≡◌, ℕ, ◌<◌, Bool, true, false, ◌&&◌, not, List, [], ◌∷◌, map, length, ℤ, nat_eq, Some, slice_get, count_by, if◌then◌else◌}
 use Rattle.std.specs.List.{sum, list_any}
 use Rattle.std.specs.Ordering.{int_eq}
@@ -56,8 +55,13 @@ pub record ConstantsDiffer (routines : List Routine) : Type 0 where
 abbrev pub call_free_rule : Rule
 call_free_rule = record free_rule { call = λ r slot. false }
 
+-- the assertions at the statements of routine r are its own
+abbrev pub assertion_rule : List Assert → ℕ → Rule
+assertion_rule asserts r = record free_rule { assertion = λ a. holds_of (λ d. nat_eq d.routine r) (slice_get asserts a) }
+
 -- each assertion stands at exactly one statement, which is of its routine
 pub record AssertsStand (routines : List Routine) (asserts : List Assert) : Type 0 where
   pub once : (a : ℕ) → a < length asserts → sum (map (λ (d : Routine). count_asserted a d.body) routines) ≡ 1
   pub own : (a : ℕ) (d : Assert) (e : Routine) → slice_get asserts a ≡ Some d → slice_get routines d.routine ≡ Some e → count_asserted a e.body ≡ 1
+  pub here : (r : ℕ) (d : Routine) → slice_get routines r ≡ Some d → each_statement (assertion_rule asserts r) d.body ≡ true
   pub call_free : (a : ℕ) (d : Assert) → slice_get asserts a ≡ Some d → each_expr call_free_rule d.cond ≡ true

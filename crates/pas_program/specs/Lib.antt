@@ -1,6 +1,7 @@
 pub mod Checked
 pub mod Each
 pub mod Labels
+pub mod Order
 pub mod Scopes
 pub mod Size
 pub mod Tables

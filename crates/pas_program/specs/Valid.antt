@@ -7,6 +7,8 @@ use Rattle.pas_program.specs.declared.routine.Routine.{Routine}
 use Rattle.pas_program.specs.declared.type_def.TypeDef.{TypeDef}
 use Rattle.pas_program.specs.declared.variable.VarDef.{VarDef}
 use Rattle.pas_program.specs.Each.{Rule, each_expr, each_statement, true_if_some}
+use Rattle.pas_program.specs.Labels.{AssertsStand, ConstantsDiffer, ControlsAreLocal, LabelsStand}
+use Rattle.pas_program.specs.Order.{ListsOrdered}
 use Rattle.pas_program.specs.Scopes.{ListsFit, parent_fits, is_outermost, scope_rule}
 use Rattle.pas_program.specs.Size.{expr_size, statement_size}
 use Rattle.pas_program.specs.Tables.{Tables, tables_of}
@@ -81,3 +83,15 @@ module _ (types : List TypeDef) (vars : List VarDef) (routines : List Routine) (
     pub parts : sum (map (λ (d : Routine). statement_size d.body) routines) + sum (map (λ (d : Assert). expr_size d.cond) asserts) ≤ most_parts
     pub vars_few : length vars ≤ most_parts
     pub types_few : length types ≤ most_parts
+
+  -- all that is asked of a program beside the list of its types
+  pub record IsValid : Type 0 where
+    pub in_range : InRange
+    pub well_typed : WellTyped
+    pub in_scope : InScope
+    pub bounded : Bounded
+    pub labels_stand : LabelsStand routines
+    pub controls_local : ControlsAreLocal (tables_of types vars routines) routines
+    pub constants_differ : ConstantsDiffer routines
+    pub asserts_stand : AssertsStand routines asserts
+    pub lists_ordered : ListsOrdered vars routines

@@ -1,5 +1,8 @@
 ghost use Rattle.pas_program.specs.Valid.{InRange, WellTyped, InScope, Bounded};
 ghost use Rattle.pas_program.specs.Types.{TypesFit};
+ghost use Rattle.pas_program.specs.Labels.{LabelsStand, ControlsAreLocal, ConstantsDiffer, AssertsStand};
+ghost use Rattle.pas_program.specs.Order.{ListsOrdered};
+ghost use Rattle.pas_program.specs.Tables.{tables_of};
 
 use crate::routine::{Assert, Routine};
 use crate::type_def::TypeDef;
@@ -19,4 +22,9 @@ pub struct Program {
     pub ghost well_typed: { WellTyped types vars routines asserts },
     pub ghost in_scope: { InScope types vars routines asserts },
     pub ghost bounded: { Bounded types vars routines asserts },
+    pub ghost labels_stand: { LabelsStand routines },
+    pub ghost controls_local: { ControlsAreLocal (tables_of types vars routines) routines },
+    pub ghost constants_differ: { ConstantsDiffer routines },
+    pub ghost asserts_stand: { AssertsStand routines asserts },
+    pub ghost lists_ordered: { ListsOrdered vars routines },
 }

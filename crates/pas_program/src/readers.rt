@@ -3,7 +3,7 @@ ghost use Rattle.pas_program.specs.Checked.{numbers_in, scope_in, tables};
 ghost use Rattle.pas_program.specs.Each.{each_expr, each_statement};
 ghost use Rattle.pas_program.specs.Typed.{hosted, is_of_host, reached, statement_types_fit};
 ghost use Rattle.pas_program.specs.Types.{TypesFit, type_fits};
-ghost use Rattle.pas_program.specs.Valid.{Bounded, InRange, InScope, WellTyped};
+ghost use Rattle.pas_program.specs.Valid.{IsValid};
 
 use crate::expr::Access;
 use crate::program::Program;
@@ -22,10 +22,7 @@ impl Program {
         asserts: Items<Assert>,
     ) -> Program
         requires types_fit { TypesFit types }
-        requires in_range { InRange types vars routines asserts }
-        requires well_typed { WellTyped types vars routines asserts }
-        requires in_scope { InScope types vars routines asserts }
-        requires bounded { Bounded types vars routines asserts }
+        requires valid { IsValid types vars routines asserts }
         ensures same_types { result.types ≡ types }
         ensures same_vars { result.vars ≡ vars }
         ensures same_routines { result.routines ≡ routines }

@@ -13,7 +13,8 @@ pub struct Routine {
     pub level: u32,
     /// Its parameters, in order.
     pub formals: Items<u32>,
-    /// All its variables, the parameters, the result and the hidden ones among them.
+    /// All its variables: the parameters, those of its variable part, the result, and the hidden ones for calls and then
+    /// for `for` statements, each of these by place.
     pub vars: Items<u32>,
     /// The variable for the result of a function.
     pub result: Option<u32>,

@@ -1,5 +1,5 @@
 -- Lists whose variables know their places have each variable of their routine, and none twice.
-use Rattle.std.proofs.Common.{◌≡◌, ℕ, zero, suc, ◌+◌, ◌<◌, Bool, true, false, ◌&&◌, not, List, [], ◌∷◌, length, nat_lt, nat_eq, get_or, refl, sym, ap, subst, ◌∙◌, inl, inr, arith, Option, Some, None}
+use Rattle.std.proofs.Common.{◌≡◌, ℕ, zero, suc, ◌+◌, ◌<◌, Bool, true, false, ◌&&◌, not, List, [], ◌∷◌, length, nat_lt, nat_eq, get_or, refl, sym, ap, ◌∙◌, inl, inr, arith, Option, Some, None}
 use Rattle.std.proofs.lemmas.Bool.{and_parts, and_from, or_cases, or_left, or_right, eqb-true, eq-eqb, ltb-true, lt-ltb, true≢false}
 use Rattle.std.proofs.lemmas.Option.{none-some, slice_get-get_or, slice_get_within}
 use Rattle.std.specs.Bool.{beq}
@@ -9,7 +9,7 @@ use Rattle.pas_program.specs.declared.variable.VarDef.{VarDef}
 use Rattle.pas_program.specs.declared.variable.VarKind.TheVariants as kind
 use Rattle.pas_program.specs.Scopes.{ListsFit, contains, is_distinct, is_formal, is_the}
 use Rattle.pas_program.specs.Tables.{holds_of, is_kind}
-use Rattle.pas_valid.specs.Whole.{Listed, entry_fits, rank_fits}
+use Rattle.pas_valid.specs.Whole.{Listed, rank_fits}
 
 -- ---- what is found
 
@@ -34,6 +34,10 @@ both_ways false false f g = refl
 
 some_same : {A : Type 0} {x y : A} → Some x ≡ Some y → x ≡ y
 some_same e = cc
+
+pub slice_get_below : {A : Type 0} (xs : List A) (k : ℕ) → k < length xs → (x : A) × (slice_get xs k ≡ Some x)
+slice_get_below [] k h = absurd (omega arith)
+slice_get_below (x ∷ xs) k h = (get_or (x ∷ xs) k x, slice_get-get_or (x ∷ xs) k x h)
 
 contains_at : (n : ℕ) (ns : List ℕ) → contains n ns ≡ true → (k : ℕ) × (slice_get ns k ≡ Some n)
 contains_at n [] h = absurd (true≢false (sym h))
@@ -75,6 +79,10 @@ record Entry (vars : List VarDef) (ranks : List ℕ) (r : ℕ) (d : Routine) (k 
   pub formal : nat_lt k (length d.formals) ≡ is_formal x.kind
   pub returned : is_the v d.result ≡ is_kind kind.Result x.kind
 
+-- a parameter stands at the same place of both lists
+pub formal_at : (vars : List VarDef) (ranks : List ℕ) (r : ℕ) (d : Routine) → Listed vars ranks r d → (k v : ℕ) → slice_get d.formals k ≡ Some v → slice_get d.vars k ≡ Some v
+formal_at vars ranks r d l k v e = let u = holds_got (λ w. nat_eq w v) (slice_get d.vars k) (l.formals k v e) in u.1 ∙ ap Some (eqb-true u.0 v u.2)
+
 module _ (vars : List VarDef) (ranks : List ℕ) (routines : List Routine) (r : ℕ) (d : Routine) (found : slice_get routines r ≡ Some d) (l : Listed vars ranks r d) (known : (v : ℕ) (x : VarDef) → slice_get vars v ≡ Some x → rank_fits routines ranks v x ≡ true) where
   rank_at : (k v : ℕ) → slice_get d.vars k ≡ Some v → slice_get ranks v ≡ Some (0 + k)
   rank_at k v e =
@@ -99,15 +107,11 @@ module _ (vars : List VarDef) (ranks : List ℕ) (routines : List Routine) (r : 
       let u = holds_got (λ w. nat_eq w v) (slice_get d.vars n.0) w in
       (n.0, u.1 ∙ ap Some (eqb-true u.0 v u.2))
 
-  -- a parameter stands at the same place of both lists
-  formal_at : (k v : ℕ) → slice_get d.formals k ≡ Some v → slice_get d.vars k ≡ Some v
-  formal_at k v e = let u = holds_got (λ w. nat_eq w v) (slice_get d.vars k) (l.formals k v e) in u.1 ∙ ap Some (eqb-true u.0 v u.2)
-
   -- and is there at each place below their number
   formal_below : (k v : ℕ) → slice_get d.vars k ≡ Some v → k < length d.formals → slice_get d.formals k ≡ Some v
   formal_below k v e h =
       let g = slice_get-get_or d.formals k 0 h in
-      g ∙ sym (formal_at k (get_or d.formals k 0) g) ∙ e
+      g ∙ sym (formal_at vars ranks r d l k (get_or d.formals k 0) g) ∙ e
 
   all_vars : (v : ℕ) (x : VarDef) → slice_get vars v ≡ Some x → contains v d.vars ≡ nat_eq x.routine r
   all_vars v x e =
@@ -118,7 +122,7 @@ module _ (vars : List VarDef) (ranks : List ℕ) (routines : List Routine) (r : 
   all_formals v x e =
       both_ways _ _
       (λ h. let p = contains_at v d.formals h in
-      let n = entry_at p.0 v x e (formal_at p.0 v p.1) in
+      let n = entry_at p.0 v x e (formal_at vars ranks r d l p.0 v p.1) in
       and_from _ _ (eq-eqb _ _ n.own) (sym n.formal ∙ lt-ltb _ _ (slice_get_within d.formals p.0 v p.1)))
       (λ h. let p = and_parts (nat_eq x.routine r) _ h in
       let s = stands v x e (eqb-true _ _ p.0) in
@@ -143,7 +147,7 @@ module _ (vars : List VarDef) (ranks : List ℕ) (routines : List Routine) (r : 
   lists_fit = record {
     vars_once = distinct_by ranks 0 d.vars rank_at;
     vars_all = all_vars;
-    formals_once = distinct_by ranks 0 d.formals (λ k v e. rank_at k v (formal_at k v e));
+    formals_once = distinct_by ranks 0 d.formals (λ k v e. rank_at k v (formal_at vars ranks r d l k v e));
     formals_all = all_formals;
     result_only = one_result;
   }

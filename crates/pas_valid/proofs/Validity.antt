@@ -1,7 +1,7 @@
 -- The parts of validity, from what was tested of each routine, assertion and variable.
-use Rattle.std.proofs.Common.{◌≡◌, ℕ, ◌+◌, ◌<◌, ◌≤◌, Bool, true, false, ◌&&◌, List, [], ◌∷◌, ℤ, length, get_or, nat_eq, nat_lt, map, refl, sym, ap, ◌∙◌, arith, Option, Some, None}
+use Rattle.std.proofs.Common.{◌≡◌, ℕ, ◌<◌, Bool, true, false, ◌&&◌, List, length, nat_eq, nat_lt, map, refl, ap, ◌∙◌, Option, Some, None}
 use Rattle.std.proofs.lemmas.Bool.{and_parts, and_from, lt-ltb, ltb-true, eq-eqb}
-use Rattle.std.proofs.lemmas.Option.{slice_get_within, slice_get-get_or}
+use Rattle.std.proofs.lemmas.Option.{slice_get_within}
 use Rattle.std.specs.List.{slice_get, sum}
 use Rattle.std.specs.Option.{option_map}
 use Rattle.pas_program.specs.declared.routine.Assert.{Assert}
@@ -10,17 +10,18 @@ use Rattle.pas_program.specs.declared.type_def.TypeDef.{TypeDef}
 use Rattle.pas_program.specs.declared.variable.VarDef.{VarDef}
 use Rattle.pas_program.specs.declared.variable.VarKind.TheVariants as kind
 use Rattle.pas_program.specs.Each.{each_expr}
-use Rattle.pas_program.specs.Labels.{ConstantsDiffer, ControlsAreLocal, LabelsStand, call_free_rule, choice_rule, control_rule, count_labelled, label_rule}
+use Rattle.pas_program.specs.Labels.{ConstantsDiffer, ControlsAreLocal, LabelsStand, assertion_rule, call_free_rule, choice_rule, control_rule, count_asserted, count_labelled, label_rule}
+use Rattle.pas_program.specs.Order.{ListsOrdered}
 use Rattle.pas_program.specs.Scopes.{scope_rule}
-use Rattle.pas_program.specs.Size.{expr_size, statement_size}
-use Rattle.pas_program.specs.Tables.{Head, head_of, holds_of, is_around, is_callable, is_own, is_visible, tables_of}
+use Rattle.pas_program.specs.Tables.{head_of, holds_of, is_around, is_callable, is_own, is_visible, tables_of}
 use Rattle.pas_program.specs.Typed.{type_of_var}
 use Rattle.pas_program.specs.Types.{is_scalar}
-use Rattle.pas_program.specs.Valid.{Bounded, InRange, InScope, WellTyped, counts_of, most_parts, number_rule, var_in_range}
+use Rattle.pas_program.specs.Valid.{InRange, InScope, IsValid, WellTyped, counts_of, number_rule}
 use Rattle.pas_program.proofs.Weaker.{Weaker, expr_weaker, statement_weaker}
 use Rattle.pas_valid.specs.Standing.{Labels, LabelsAre, has_label}
-use Rattle.pas_valid.specs.Whole.{AssertFits, RoutineFits, placed_in, rank_fits}
-use Rattle.pas_valid.proofs.Ranks.{holds_got, lists_fit}
+use Rattle.pas_valid.specs.Whole.{AllFit, placed_in}
+use Rattle.pas_valid.proofs.Order.{list_ordered}
+use Rattle.pas_valid.proofs.Ranks.{holds_got, lists_fit, slice_get_below}
 
 -- what is found is in range
 found_below : {A : Type 0} (f : A → Bool) (xs : List A) (k : ℕ) → holds_of f (slice_get xs k) ≡ true → nat_lt k (length xs) ≡ true
@@ -29,10 +30,6 @@ found_below f xs k h = let p = holds_got f (slice_get xs k) h in lt-ltb _ _ (sli
 mapped_some : {A B : Type 0} (g : A → B) (o : Option A) (f : B → Bool) → holds_of f (option_map g o) ≡ true → holds_of (λ x. f (g x)) o ≡ true
 mapped_some g None f h = h
 mapped_some g (Some x) f h = h
-
-slice_get_below : {A : Type 0} (xs : List A) (k : ℕ) → k < length xs → (x : A) × (slice_get xs k ≡ Some x)
-slice_get_below [] k h = absurd (omega arith)
-slice_get_below (x ∷ xs) k h = (get_or (x ∷ xs) k x, slice_get-get_or (x ∷ xs) k x h)
 
 module _ (types : List TypeDef) (vars : List VarDef) (routines : List Routine) (asserts : List Assert) (labels : List Labels) where
   callable_below : (r s : ℕ) → is_callable (tables_of types vars routines) r s ≡ true → nat_lt s (length routines) ≡ true
@@ -48,7 +45,7 @@ module _ (types : List TypeDef) (vars : List VarDef) (routines : List Routine) (
         let q = and_parts (is_visible (tables_of types vars routines) r control) _ p.1 in
         and_from _ _ (found_below _ vars control q.0) (found_below _ vars bound q.1);
     jump = λ s label h. (and_parts (nat_lt s (length routines)) _ (and_parts (nat_lt s (length routines) && is_around (tables_of types vars routines) r s) _ h).0).0;
-    assertion = λ a h. h;
+    assertion = λ a h. found_below _ asserts a h;
     sequence = λ n h. refl;
     choice = λ constants h. refl;
   }
@@ -89,6 +86,18 @@ module _ (types : List TypeDef) (vars : List VarDef) (routines : List Routine) (
     choice = λ constants h. h;
   }
 
+  own_asserts : (r : ℕ) → Weaker (placed_in types vars routines asserts labels true r) (assertion_rule asserts r)
+  own_asserts r = record {
+    variable = λ v h. refl;
+    call = λ s slot h. refl;
+    invoke = λ s h. refl;
+    loop = λ control bound h. refl;
+    jump = λ s label h. refl;
+    assertion = λ a h. h;
+    sequence = λ n h. refl;
+    choice = λ constants h. refl;
+  }
+
   no_calls : (r : ℕ) → Weaker (placed_in types vars routines asserts labels false r) call_free_rule
   no_calls r = record {
     variable = λ v h. refl;
@@ -121,14 +130,7 @@ module _ (types : List TypeDef) (vars : List VarDef) (routines : List Routine) (
     choice = λ constants h. refl;
   }
 
-  -- what was tested of all
-  pub record AllFit (ranks : List ℕ) : Type 0 where
-    pub range : (v : ℕ) (x : VarDef) → slice_get vars v ≡ Some x → var_in_range (counts_of types vars routines asserts) x ≡ true
-    pub known : (v : ℕ) (x : VarDef) → slice_get vars v ≡ Some x → rank_fits routines ranks v x ≡ true
-    pub routine : (r : ℕ) (d : Routine) → slice_get routines r ≡ Some d → RoutineFits types vars routines asserts labels ranks r d
-    pub assertion : (a : ℕ) (d : Assert) → slice_get asserts a ≡ Some d → AssertFits types vars routines asserts labels d
-
-  pub in_range : (ranks : List ℕ) → AllFit ranks → InRange types vars routines asserts
+  in_range : (ranks : List ℕ) → AllFit types vars routines asserts labels ranks → InRange types vars routines asserts
   in_range ranks f = record {
     var = f.range;
     routine = λ r d e. (f.routine r d e).range;
@@ -137,16 +139,16 @@ module _ (types : List TypeDef) (vars : List VarDef) (routines : List Routine) (
     condition = λ a d e. expr_weaker _ _ (numbers false d.routine) d.cond (f.assertion a d e).scopes;
   }
 
-  pub well_typed : (ranks : List ℕ) → AllFit ranks → WellTyped types vars routines asserts
+  well_typed : (ranks : List ℕ) → AllFit types vars routines asserts labels ranks → WellTyped types vars routines asserts
   well_typed ranks f = record {
     result = λ r d e. (f.routine r d e).result;
     body = λ r d e. (f.routine r d e).body;
     condition = λ a d e. (f.assertion a d e).condition;
   }
 
-  pub in_scope : (ranks : List ℕ) → 0 < length routines → AllFit ranks → InScope types vars routines asserts
-  in_scope ranks some f = record {
-    last = some;
+  in_scope : (ranks : List ℕ) → AllFit types vars routines asserts labels ranks → InScope types vars routines asserts
+  in_scope ranks f = record {
+    last = f.some;
     parent = λ r d e. (f.routine r d e).parent;
     lists = λ r d e. lists_fit vars ranks routines r d e (f.routine r d e).lists f.known;
     outermost = λ r d e. (f.routine r d e).outermost;
@@ -154,14 +156,42 @@ module _ (types : List TypeDef) (vars : List VarDef) (routines : List Routine) (
     condition = λ a d e. expr_weaker _ _ (scopes false d.routine) d.cond (f.assertion a d e).scopes;
   }
 
-  pub controls_local : (ranks : List ℕ) → AllFit ranks → ControlsAreLocal (tables_of types vars routines) routines
+  controls_local : (ranks : List ℕ) → AllFit types vars routines asserts labels ranks → ControlsAreLocal (tables_of types vars routines) routines
   controls_local ranks f = record { each = λ r d e. statement_weaker _ _ (controls r) d.body (f.routine r d e).scopes }
 
-  pub constants_differ : (ranks : List ℕ) → AllFit ranks → ConstantsDiffer routines
+  constants_differ : (ranks : List ℕ) → AllFit types vars routines asserts labels ranks → ConstantsDiffer routines
   constants_differ ranks f = record { each = λ r d e. statement_weaker _ _ (constants r) d.body (f.routine r d e).scopes }
 
-  pub labels_stand : (ranks : List ℕ) → AllFit ranks → LabelsAre routines labels → LabelsStand routines
+  labels_stand : (ranks : List ℕ) → AllFit types vars routines asserts labels ranks → LabelsAre routines labels → LabelsStand routines
   labels_stand ranks f are = record { each = λ r d e. statement_weaker _ _ (jumps are r) d.body (f.routine r d e).scopes }
 
-  pub conditions_call_free : (ranks : List ℕ) → AllFit ranks → (a : ℕ) (d : Assert) → slice_get asserts a ≡ Some d → each_expr call_free_rule d.cond ≡ true
+  conditions_call_free : (ranks : List ℕ) → AllFit types vars routines asserts labels ranks → (a : ℕ) (d : Assert) → slice_get asserts a ≡ Some d → each_expr call_free_rule d.cond ≡ true
   conditions_call_free ranks f a d e = expr_weaker _ _ (no_calls d.routine) d.cond (f.assertion a d e).scopes
+
+  lists_ordered : (ranks : List ℕ) → AllFit types vars routines asserts labels ranks → ListsOrdered vars routines
+  lists_ordered ranks f = record { each = λ r d e. list_ordered vars ranks r d (f.routine r d e).lists }
+
+  -- how often assertions stand
+  abbrev pub StandOnce : Type 0
+  StandOnce = (a : ℕ) → a < length asserts → sum (map (λ (d : Routine). count_asserted a d.body) routines) ≡ 1
+
+  abbrev pub StandInOwn : Type 0
+  StandInOwn = (a : ℕ) (d : Assert) (e : Routine) → slice_get asserts a ≡ Some d → slice_get routines d.routine ≡ Some e → count_asserted a e.body ≡ 1
+
+  pub valid : (ranks : List ℕ) → AllFit types vars routines asserts labels ranks → LabelsAre routines labels → StandOnce → StandInOwn → IsValid types vars routines asserts
+  valid ranks f are once own = record {
+    in_range = in_range ranks f;
+    well_typed = well_typed ranks f;
+    in_scope = in_scope ranks f;
+    bounded = f.bounded;
+    labels_stand = labels_stand ranks f are;
+    controls_local = controls_local ranks f;
+    constants_differ = constants_differ ranks f;
+    asserts_stand = record {
+      once = once;
+      own = own;
+      here = λ r d e. statement_weaker _ _ (own_asserts r) d.body (f.routine r d e).scopes;
+      call_free = conditions_call_free ranks f;
+    };
+    lists_ordered = lists_ordered ranks f;
+  }

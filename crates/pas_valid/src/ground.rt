@@ -1,4 +1,4 @@
-use pas_program::{Routine, TypeDef, VarDef};
+use pas_program::{Assert, Routine, TypeDef, VarDef};
 use std::alloc::Global;
 use std::collections::HashSet;
 
@@ -11,8 +11,7 @@ pub struct Ground<'a> {
     pub routines: &'a [Routine],
     /// The labels of each routine.
     pub labels: &'a [HashSet<u32>],
-    /// How many assertions there are.
-    pub asserts: usize,
+    pub asserts: &'a [Assert],
     /// The routine at hand.
     pub routine: u32,
     /// Whether a function may be called.

@@ -1,9 +1,10 @@
 //! What is asked of each routine.
 
-ghost use Rattle.std.specs.Prelude.{◌≡◌, ◌+◌, ◌<◌, ◌≤◌, ℕ, OnOk, OnSome, Some, length, nat_eq, nat_lt, slice_get, true};
+ghost use Rattle.std.specs.Prelude.{◌≡◌, ◌+◌, ◌<◌, ◌≤◌, ℕ, OnOk, OnSome, Some, length, nat_eq, nat_lt, slice_get, suc, true};
 ghost use Rattle.std.specs.Bool.{OnTrue};
 ghost use Rattle.std.specs.Option.{option_map};
 ghost use Rattle.pas_program.specs.Each.{true_if_some};
+ghost use Rattle.pas_program.specs.Order as order;
 ghost use Rattle.pas_program.specs.Scopes as scopes;
 ghost use Rattle.pas_program.specs.Size.{statement_size};
 ghost use Rattle.pas_program.specs.Tables.{holds_of, tables_of};
@@ -43,6 +44,26 @@ fn is_formal(kind: VarKind) -> bool
     matches!(kind, VarKind::Value | VarKind::Var)
 }
 
+/// Where the variables of a kind stand in the list of a routine.
+fn rank(kind: VarKind) -> u8
+    ensures { result ≡ order.rank kind }
+{
+    match kind {
+        VarKind::Value | VarKind::Var => 0,
+        VarKind::Local => 1,
+        VarKind::Result => 2,
+        VarKind::Slot => 3,
+        VarKind::Bound => 4,
+    }
+}
+
+fn precedes(first: &VarDef, next: &VarDef) -> bool
+    ensures { result ≡ order.precedes first.now next.now }
+{
+    let (before, after) = (rank(first.kind), rank(next.kind));
+    before < after || before == after && first.place < next.place
+}
+
 fn is_outermost(body: &Statement) -> bool
     ensures { result ≡ scopes.is_outermost body.now }
 {
@@ -75,7 +96,7 @@ impl<'a> Parts<'a> {
             vars: self.vars,
             routines: self.routines,
             labels: self.labels,
-            asserts: self.asserts.len(),
+            asserts: self.asserts,
             routine: r,
             calls: true,
         };
@@ -133,6 +154,7 @@ impl<'a> Parts<'a> {
         ensures { OnSome result (whole.Listed self.now.vars.now self.now.ranks.now r d.now) }
     {
         self.entries(r, d, d.vars.as_slice())?;
+        self.neighbours(d.vars.as_slice())?;
         formals_first(d.formals.as_slice(), d.vars.as_slice())?;
         if !self.result_own(r, d.result) {
             return None;
@@ -148,6 +170,32 @@ impl<'a> Parts<'a> {
             self.entry(r, d, k, *v)?;
         }
         Some(())
+    }
+
+    /// Whether each variable of a list precedes the next.
+    fn neighbours(&self, list: &[u32]) -> Option<()>
+        ensures { OnSome result ((k v w : ℕ) → slice_get list.now k ≡ Some v → slice_get list.now (suc k) ≡ Some w → whole.stand_in_order self.now.vars.now v w ≡ true) }
+    {
+        for (k, v) in list.iter().enumerate() {
+            if let Some(w) = at(list, k + 1) {
+                if !self.stand_in_order(*v, *w) {
+                    return None;
+                }
+            }
+        }
+        Some(())
+    }
+
+    fn stand_in_order(&self, v: u32, w: u32) -> bool
+        ensures { result ≡ whole.stand_in_order self.now.vars.now v w }
+    {
+        match at(self.vars, v as usize) {
+            Some(first) => match at(self.vars, w as usize) {
+                Some(next) => precedes(first, next),
+                None => false,
+            },
+            None => false,
+        }
     }
 
     fn result_own(&self, r: u32, o: Option<u32>) -> bool

@@ -70,10 +70,31 @@ impl<'a> Ground<'a> {
         ensures scopes { OnOk result (each_statement (placed self.now) s.now ≡ true) }
         ensures size { OnOk result (statement_size s.now + left.new ≤ left.old) }
     {
-        if spend(left).is_none() || !all_below(s.asserts.as_slice(), self.asserts) {
+        if spend(left).is_none() || !self.all_own(s.asserts.as_slice()) {
             return Err(Refusal::Invalid);
         }
         self.body(&s.body, left)
+    }
+
+    /// Whether assertions are of the routine at hand.
+    fn all_own(&self, numbers: &[u32]) -> bool
+        ensures { OnTrue result (list_all (placed self.now).assertion numbers.now ≡ true) }
+    {
+        for number in numbers {
+            if !self.is_own_assertion(*number) {
+                return false;
+            }
+        }
+        true
+    }
+
+    fn is_own_assertion(&self, number: u32) -> bool
+        ensures { result ≡ (placed self.now).assertion number }
+    {
+        match at(self.asserts, number as usize) {
+            Some(assert) => assert.routine == self.routine,
+            None => false,
+        }
     }
 
     #[cycle(statement)]

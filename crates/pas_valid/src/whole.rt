@@ -2,12 +2,9 @@
 
 ghost use Rattle.std.specs.Prelude.{◌≡◌, ◌+◌, ◌<◌, ◌≤◌, ℕ, IfOk, IfSome, OnOk, OnSome, Some, length, map, slice_get, true};
 ghost use Rattle.std.specs.List.{sum};
-ghost use Rattle.pas_program.specs.Checked.{tables};
-ghost use Rattle.pas_program.specs.Each.{each_expr};
-ghost use Rattle.pas_program.specs.Labels.{AssertsStand, ConstantsDiffer, ControlsAreLocal, LabelsStand, call_free_rule, count_asserted};
-ghost use Rattle.pas_program.specs.Tables.{tables_of};
+ghost use Rattle.pas_program.specs.Labels.{count_asserted};
 ghost use Rattle.pas_program.specs.Size.{expr_size, statement_size};
-ghost use Rattle.pas_program.specs.Valid.{Bounded, InRange, InScope, WellTyped, counts_of, var_in_range};
+ghost use Rattle.pas_program.specs.Valid.{IsValid, counts_of, var_in_range};
 ghost use Rattle.pas_valid.specs.Standing.{LabelsAre};
 ghost use Rattle.pas_valid.specs.Whole as whole;
 
@@ -87,7 +84,7 @@ impl<'a> Parts<'a> {
             vars: self.vars,
             routines: self.routines,
             labels: self.labels,
-            asserts: self.asserts.len(),
+            asserts: self.asserts,
             routine: d.routine,
             calls: false,
         };
@@ -97,14 +94,7 @@ impl<'a> Parts<'a> {
 
     /// Whether the parts are valid, apart from the list of types.
     fn valid(&self) -> Result<(), Refusal>
-        ensures in_range { OnOk result (InRange self.now.types.now self.now.vars.now self.now.routines.now self.now.asserts.now) }
-        ensures well_typed { OnOk result (WellTyped self.now.types.now self.now.vars.now self.now.routines.now self.now.asserts.now) }
-        ensures in_scope { OnOk result (InScope self.now.types.now self.now.vars.now self.now.routines.now self.now.asserts.now) }
-        ensures bounded { OnOk result (Bounded self.now.types.now self.now.vars.now self.now.routines.now self.now.asserts.now) }
-        ensures controls { OnOk result (ControlsAreLocal (tables_of self.now.types.now self.now.vars.now self.now.routines.now) self.now.routines.now) }
-        ensures constants { OnOk result (ConstantsDiffer self.now.routines.now) }
-        ensures labels { OnOk result (LabelsAre self.now.routines.now self.now.labels.now → LabelsStand self.now.routines.now) }
-        ensures calls { OnOk result ((a : ℕ) (d : Assert) → slice_get self.now.asserts.now a ≡ Some d → each_expr call_free_rule d.cond ≡ true) }
+        ensures { OnOk result (whole.AllFit self.now.types.now self.now.vars.now self.now.routines.now self.now.asserts.now self.now.labels.now self.now.ranks.now) }
     {
         let most = MOST_PARTS as usize;
         if self.types.len() > most || self.vars.len() > most || self.routines.len() == 0 {
@@ -170,10 +160,6 @@ pub fn program_of(
     ensures vars { IfOk result (λ o. IfSome o (λ p. p.vars ≡ vars)) }
     ensures routines { IfOk result (λ o. IfSome o (λ p. p.routines ≡ routines)) }
     ensures asserts { IfOk result (λ o. IfSome o (λ p. p.asserts ≡ asserts)) }
-    ensures controls { IfOk result (λ o. IfSome o (λ p. ControlsAreLocal (tables p) p.routines)) }
-    ensures labels { IfOk result (λ o. IfSome o (λ p. LabelsStand p.routines)) }
-    ensures constants { IfOk result (λ o. IfSome o (λ p. ConstantsDiffer p.routines)) }
-    ensures assertions { IfOk result (λ o. IfSome o (λ p. AssertsStand p.routines p.asserts)) }
 {
     let ranks = ranks(alloc, vars.len(), routines.as_slice())?;
     match valid_with(
@@ -202,14 +188,7 @@ fn valid_with(
     asserts: &[Assert],
     ranks: &[u32],
 ) -> Result<(), Refusal>
-    ensures in_range { OnOk result (InRange types.now vars.now routines.now asserts.now) }
-    ensures well_typed { OnOk result (WellTyped types.now vars.now routines.now asserts.now) }
-    ensures in_scope { OnOk result (InScope types.now vars.now routines.now asserts.now) }
-    ensures bounded { OnOk result (Bounded types.now vars.now routines.now asserts.now) }
-    ensures controls { OnOk result (ControlsAreLocal (tables_of types.now vars.now routines.now) routines.now) }
-    ensures labels { OnOk result (LabelsStand routines.now) }
-    ensures constants { OnOk result (ConstantsDiffer routines.now) }
-    ensures assertions { OnOk result (AssertsStand routines.now asserts.now) }
+    ensures { OnOk result (IsValid types.now vars.now routines.now asserts.now) }
 {
     let sets = standing(alloc, routines, asserts)?;
     let parts = Parts {

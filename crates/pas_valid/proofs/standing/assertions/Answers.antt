@@ -1,5 +1,4 @@
 use Rattle.std.proofs.Common.{nat_eq}
-use Rattle.pas_valid.specs.Standing.{mark_count}
 use Rattle.pas_valid.proofs.Marks.{counted_first, counted_next, counted_last, at_any}
 use Rattle.pas_valid.proofs.standing.assertions.Goals as goal
 

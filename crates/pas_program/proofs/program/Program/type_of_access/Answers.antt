@@ -1,6 +1,5 @@
-use Rattle.std.proofs.Common.{◌≡◌, ◌<◌, ◌≤◌, length, Some, subst, sym, ap, ◌∙◌, arith}
+use Rattle.std.proofs.Common.{◌<◌, ◌≤◌, length, subst}
 use Rattle.std.proofs.lemmas.Option.{slice_get_within}
-use Rattle.std.specs.List.{slice_get}
 use Rattle.pas_program.specs.Checked.{tables}
 use Rattle.pas_program.specs.Typed.{reached}
 use Rattle.pas_program.specs.declared.expr.Actual.TheViews.{out-Access}

@@ -1,7 +1,5 @@
-use Rattle.std.proofs.Common.{◌≡◌, ◌<◌, ℕ, length, get_or, rules}
 use Rattle.std.proofs.lemmas.Bool.{and_parts, ltb-true}
 use Rattle.std.proofs.lemmas.Option.{slice_get-get_or}
-use Rattle.std.specs.List.{slice_get}
 use Rattle.pas_program.proofs.program.Program.var_def.Goals as goal
 
 pub returns-clause-routine_in_range : goal.returns-clause-routine_in_range

@@ -1,7 +1,6 @@
 use Rattle.std.proofs.Common.{sym, ◌∙◌}
-use Rattle.pas_program.specs.Each.{each_actual}
 use Rattle.pas_program.specs.Size.{actual_size}
-use Rattle.pas_valid.specs.Passing.{known, placed}
+use Rattle.pas_valid.specs.Passing.{known}
 use Rattle.pas_valid.proofs.Lists.{walked_next, passed_next}
 use Rattle.pas_valid.proofs.ground.Ground.+expr.Goals as goal
 
