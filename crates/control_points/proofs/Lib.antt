@@ -1,14 +1,22 @@
 pub mod Asserted
 pub mod Blocks
 pub mod CallsOf
+pub mod Counted
 pub mod Covered
 pub mod Drawn
 pub mod EdgeExamples
 pub mod Examples
 pub mod Exits
+pub mod FirstDifferent
 pub mod Fitting
 pub mod Followed
 pub mod Inside
+pub mod JudgedFlows
+pub mod JudgedNumbers
+pub mod JudgedParts
+pub mod JudgedPieces
+pub mod JudgedRoutines
+pub mod JudgedStatements
 pub mod Labelling
 pub mod Laying
 pub mod Left
@@ -35,6 +43,7 @@ pub mod PathsRoutines
 pub mod PathsStatements
 pub mod PathsWhole
 pub mod Pointed
+pub mod RisingSteps
 pub mod Scened
 pub mod Sized
 pub mod Sizes
@@ -49,6 +58,7 @@ pub mod ValidErrors
 pub mod ValidFlows
 pub mod ValidForeseen
 pub mod ValidHalts
+pub mod ValidJudged
 pub mod ValidNumbers
 pub mod ValidPlaces
 pub mod ValidStacks
@@ -56,4 +66,6 @@ pub mod ValidSteps
 pub mod ValidStores
 pub mod ValidValues
 pub mod Values
+pub mod Walked
+pub mod WalkedStatements
 pub mod Whole

@@ -37,9 +37,9 @@ module _ (g h : Site → ℕ) (plan : Plan) (r : ℕ) where
   made_here path n source (c ∷ sites) s e p =
       let back : Site = record { routine = r; path = path; kind = kind.AfterCall; number = n } in
       let more = (made plan.tables r path (suc n) back sites).piece.points in
-      let one : EachFrom (IsAt g h) (s + 1 + 1) more = each_rest (IsAt g h) (s + 1) (s + 1 + 1) (record { site = back; at = c.at }) more refl p in
+      let one : EachFrom (IsAt g h) (s + 1 + 1) more = each_rest (IsAt g h) (s + 1) (s + 1 + 1) (record { site = back; at = c.at; asserts = [] }) more refl p in
       let same : s + 1 + length sites ≡ s + suc (length sites) = omega arith in
-      made_here path (suc n) back sites (s + 1) (each_first (IsAt g h) (s + 1) (record { site = back; at = c.at }) more p) one ∙ same
+      made_here path (suc n) back sites (s + 1) (each_first (IsAt g h) (s + 1) (record { site = back; at = c.at; asserts = [] }) more p) one ∙ same
 
   call_draws : (c : CallSite) (source back : Site) (a s : ℕ) → IsReady g h plan c.routine → g source ≡ s → g back ≡ s + 1 → Draws g h (call_piece plan.tables c source back) a (pieces.call plan c s (s + 1))
   call_draws c source back a s ready e f =
@@ -55,7 +55,7 @@ module _ (g h : Site → ℕ) (plan : Plan) (r : ℕ) where
       let more = (made plan.tables r path (suc n) back sites).piece in
       draws_knowing g h (made plan.tables r path n source (c ∷ sites)).piece (s + 1) (pieces.calls plan (c ∷ sites) s)
       (λ p.
-      let f : g back ≡ s + 1 = each_first (IsAt g h) (s + 1) (record { site = back; at = c.at }) more.points p in
+      let f : g back ≡ s + 1 = each_first (IsAt g h) (s + 1) (record { site = back; at = c.at; asserts = [] }) more.points p in
       draws_both g h (call_piece plan.tables c source back) more (s + 1) (s + 1 + 1) (pieces.call plan c s (s + 1)) (pieces.calls plan sites (s + 1)) refl
       (call_draws c source back (s + 1) s (ready.each 0 c refl) e f)
       (made_draws path (suc n) back sites (s + 1) (ready_rest c sites ready) f))
@@ -111,7 +111,7 @@ module _ (g h : Site → ℕ) (plan : Plan) (r : ℕ) where
         (λ p.
         let many : b ≡ s + 1 + length m.piece.points = ap (λ j. s + 1 + j) (sym (made_many path k source sites)) in
         let here : g m.here ≡ s + length sites = made_here path k source sites s e (each_front (IsAt g h) (s + 1) m.piece.points behind.points p) in
-        let there : g past ≡ b = each_first (IsAt g h) b (record { site = past; at = at }) rest.points (each_past (IsAt g h) (s + 1) b m.piece.points behind.points many p) in
+        let there : g past ≡ b = each_first (IsAt g h) b (record { site = past; at = at; asserts = [] }) rest.points (each_past (IsAt g h) (s + 1) b m.piece.points behind.points many p) in
         let one : b ≡ s + suc (length sites) = omega arith in
         let two : b ≡ s + length sites + 1 = omega arith in
         let three : s + suc (length sites) + 1 ≡ b + 1 = omega arith in

@@ -60,7 +60,7 @@ module _ (t : Tables) (asserts : List Assert) (r : ℕ) (x : Site) where
       let past : Site = record { routine = r; path = path; kind = kind.AfterRead; number = n } in
       let rest = reads t asserts r path (suc n) m.number past end targets next in
       let e = reads_once path (suc n) m.number past end targets next in
-      let p = times_both (λ (y : Placed). same_site y.site x) m.piece.points (record { site = past; at = (out-Access a).at } ∷ rest.points) in
+      let p = times_both (λ (y : Placed). same_site y.site x) m.piece.points (record { site = past; at = (out-Access a).at; asserts = [] } ∷ rest.points) in
       let c = times_both (is_call_from x) m.piece.links (record { source = m.here; deed = does (act.Read a); target = past } ∷ rest.links) in
       let split = number_split x r kind.AfterRead n path in
       record { points = omega (arith, o.points, e.points, p, split); calls = omega (arith, o.calls, e.calls, p, c) }
@@ -74,7 +74,7 @@ module _ (t : Tables) (asserts : List Assert) (r : ℕ) (x : Site) where
       let past : Site = record { routine = r; path = path; kind = kind.AfterWrite; number = n } in
       let rest = writes t asserts r path (suc n) m.number past end items next in
       let e = writes_once path (suc n) m.number past end items next in
-      let p = times_both (λ (y : Placed). same_site y.site x) m.piece.points (record { site = past; at = place_of_written t asserts r item.value } ∷ rest.points) in
+      let p = times_both (λ (y : Placed). same_site y.site x) m.piece.points (record { site = past; at = place_of_written t asserts r item.value; asserts = [] } ∷ rest.points) in
       let c = times_both (is_call_from x) m.piece.links (record { source = m.here; deed = does (act.Write item); target = past } ∷ rest.links) in
       let split = number_split x r kind.AfterWrite n path in
       record { points = omega (arith, o.points, e.points, p, split); calls = omega (arith, o.calls, e.calls, p, c) }

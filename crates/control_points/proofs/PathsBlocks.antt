@@ -105,10 +105,10 @@ module _ (g h : Site → ℕ) (plan : Plan) (label : ℕ → ℕ → Site) (r : 
       let long : z ≡ e + 1 + length order.points = at ∙ ap (λ k. e + 1 + k) (sym (statements_many g h plan label r 0 body [] (exit_of r))) in
       draws_knowing g h (both (point_of (entry_of r) begin) (both first (both order last))) e drawn
       (λ known.
-      let entry_is : g (entry_of r) ≡ e = each_first (IsAt g h) e (record { site = entry_of r; at = begin }) (order.points ++ last.points) known in
-      let rest : EachFrom (IsAt g h) (e + 1) (order.points ++ last.points) = each_past (IsAt g h) e (e + 1) (record { site = entry_of r; at = begin } ∷ []) (order.points ++ last.points) refl known in
+      let entry_is : g (entry_of r) ≡ e = each_first (IsAt g h) e (record { site = entry_of r; at = begin; asserts = [] }) (order.points ++ last.points) known in
+      let rest : EachFrom (IsAt g h) (e + 1) (order.points ++ last.points) = each_past (IsAt g h) e (e + 1) (record { site = entry_of r; at = begin; asserts = [] } ∷ []) (order.points ++ last.points) refl known in
       let in_is : g inside ≡ e + 1 = order_first g h plan label r 0 body [] (exit_of r) (e + 1) many (each_front (IsAt g h) (e + 1) order.points last.points rest) in
-      let exit_is : g (exit_of r) ≡ z = each_first (IsAt g h) z (record { site = exit_of r; at = end }) [] (each_past (IsAt g h) (e + 1) z order.points last.points long rest) in
+      let exit_is : g (exit_of r) ≡ z = each_first (IsAt g h) z (record { site = exit_of r; at = end; asserts = [] }) [] (each_past (IsAt g h) (e + 1) z order.points last.points long rest) in
       draws_like g h (both (point_of (entry_of r) begin) (both first (both order last))) e (pieces.both pieces.nothing drawn) drawn (none_before drawn)
       (draws_both g h (point_of (entry_of r) begin) (both first (both order last)) e (e + 1) pieces.nothing drawn refl (draws_point g h (entry_of r) begin e)
       (draws_both g h first (both order last) (e + 1) (e + 1) (pieces.way e act.Skip (e + 1)) (pieces.both ordered judging) (omega arith) (draws_way g h (entry_of r) inside act.Skip (e + 1) e (e + 1) entry_is in_is)

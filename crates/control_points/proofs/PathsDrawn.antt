@@ -1,5 +1,5 @@
 -- A piece by paths that draws a piece by numbers, once its points and its calls have their numbers.
-use Rattle.std.proofs.Common.{◌≡◌, ℕ, ◌+◌, true, [], ◌∷◌, ◌++◌, map, length, append-nil, refl, sym, ap, subst, ◌∙◌, arith}
+use Rattle.std.proofs.Common.{◌≡◌, ℕ, ◌+◌, true, List, [], ◌∷◌, ◌++◌, map, length, append-nil, refl, sym, ap, subst, ◌∙◌, arith}
 use Rattle.std.proofs.lemmas.List.{length-map, map-append}
 use Rattle.control_points.specs.declared.check.Check.{Check}
 use Rattle.control_points.specs.declared.edge.Act.{Act}
@@ -10,7 +10,7 @@ use Rattle.control_points.specs.Checking.{Faults}
 use Rattle.control_points.specs.Judging.{check_of, checks_at}
 use Rattle.control_points.specs.Pieces.{Part, Plan, after_part}
 use Rattle.control_points.specs.Pieces as pieces
-use Rattle.control_points.specs.Sites.{Deed, Judged, Link, Piece, Placed, Site, both, call_links, calls, does, entry_of, exit_of, is_call, judged, judged_at, nothing, point_of, returns, way}
+use Rattle.control_points.specs.Sites.{Deed, Judged, Link, Piece, Placed, Site, asserted_point, both, call_links, calls, does, entry_of, exit_of, is_call, judged, judged_at, nothing, point_of, returns, way}
 use Rattle.control_points.proofs.Followed.{both_again}
 use Rattle.control_points.proofs.PathsLists.{EachFrom, each_first, each_front, each_past}
 
@@ -73,8 +73,11 @@ module _ (g h : Site → ℕ) where
   pub draws_nothing : (start : ℕ) → Draws nothing start pieces.nothing
   draws_nothing start = record { drawn = λ n m c. record { edges = refl; checks = refl } }
 
+  pub draws_asserted : (site : Site) (at : ℕ) (asserts : List ℕ) (start : ℕ) → Draws (asserted_point site at asserts) start pieces.nothing
+  draws_asserted site at asserts start = record { drawn = λ n m c. record { edges = refl; checks = refl } }
+
   pub draws_point : (site : Site) (at start : ℕ) → Draws (point_of site at) start pieces.nothing
-  draws_point site at start = record { drawn = λ n m c. record { edges = refl; checks = refl } }
+  draws_point site at start = draws_asserted site at [] start
 
   pub draws_way : (source target : Site) (a : Act) (start s t : ℕ) → g source ≡ s → g target ≡ t → Draws (way source a target) start (pieces.way s a t)
   draws_way source target a start s t e f = record {

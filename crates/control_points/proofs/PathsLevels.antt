@@ -9,7 +9,7 @@ use Rattle.pas_program.specs.declared.statement.Body.TheViews.{roll-Arm, roll-Bo
 use Rattle.pas_program.specs.declared.statement.Statement.{Statement}
 use Rattle.pas_program.specs.Tables.{Tables}
 use Rattle.control_points.specs.Checking.{assert_checks}
-use Rattle.control_points.specs.Sites.{Labels, Path, Placing, Site, before, body_labels, body_step, both, judged, own_label, point_of, statement_labels, statement_piece, statement_step}
+use Rattle.control_points.specs.Sites.{Labels, Path, Placing, Site, asserted_point, before, body_labels, body_step, both, judged, own_label, statement_labels, statement_piece, statement_step}
 
 module _ (t : Tables) (asserts : List Assert) (r : ℕ) (label : ℕ → ℕ → Site) where
   abbrev pub placed_body : Body → ℕ → Placing
@@ -31,7 +31,7 @@ module _ (t : Tables) (asserts : List Assert) (r : ℕ) (label : ℕ → ℕ →
   arm_opened d = fold-roll-Arm (ℕ → Placing) (List ℤ × Placing) Placing (body_step t asserts r label) (λ a. (a.consts, a.body)) (statement_step t asserts r label) d
 
   pub statement_opened : (d : Statement-F Body Arm Statement) (path : Path) (next : Site)
-      → placed (roll-Statement d) path next ≡ both (point_of (before t asserts r path) d.at) (both (judged (before t asserts r path) (assert_checks asserts d.asserts)) (placed_body d.body d.at path next))
+      → placed (roll-Statement d) path next ≡ both (asserted_point (before t asserts r path) d.at d.asserts) (both (judged (before t asserts r path) (assert_checks asserts d.asserts)) (placed_body d.body d.at path next))
   statement_opened d path next = ap (λ (f : Placing). f path next) (fold-roll-Statement (ℕ → Placing) (List ℤ × Placing) Placing (body_step t asserts r label) (λ a. (a.consts, a.body)) (statement_step t asserts r label) d)
 
 -- ---- labels

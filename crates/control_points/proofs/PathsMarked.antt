@@ -12,7 +12,7 @@ use Rattle.control_points.specs.Calls.{Sites}
 use Rattle.control_points.specs.Labelled.{label_in}
 use Rattle.control_points.specs.Marks.{Marks, before_mark, call_marks, mark}
 use Rattle.control_points.specs.Sites.{Labels, Path, Placed, Site, made, own_label, point_at}
-use Rattle.control_points.specs.Wired.{points_of}
+use Rattle.control_points.specs.Wired.{asserts_of, points_of}
 use Rattle.control_points.proofs.PathsLists.{EachFrom, each_first, each_rest}
 
 pub nat_eq_turned : (m n : ℕ) → nat_eq m n ≡ nat_eq n m
@@ -66,26 +66,31 @@ first_site_both n (x ∷ xs) ys (m ∷ ms) us e =
     ap (cond (is_the n m.label) (Some x.site)) (first_site_both n xs ys ms us less)
     ∙ or_first_tested (is_the n m.label) x.site (first_site n xs ms) (first_site n ys us)
 
+abbrev pub asserts_of_placed : Placed → List ℕ
+asserts_of_placed x = x.asserts
+
 module _ (r : ℕ) where
   abbrev pub before_at : Path → Site
   before_at path = record { routine = r; path = path; kind = kind.Before; number = 0 }
 
   pub record IsMarked (points : List Placed) (marks : Marks) (labels : Labels) : Type 0 where
     pub are : map point_at points ≡ points_of marks
+    pub listed : map asserts_of_placed points ≡ asserts_of marks
     pub found : (n : ℕ) → option_map before_at (first_of labels n) ≡ first_site n points marks
 
   pub marked_many : (points : List Placed) (marks : Marks) (labels : Labels) → IsMarked points marks labels → length points ≡ length marks
   marked_many points marks labels m = sym (length-map points point_at) ∙ ap length m.are ∙ length-map marks (λ (x : Mark). x.point)
 
   pub none_marked : IsMarked [] [] []
-  none_marked = record { are = refl; found = λ n. refl }
+  none_marked = record { are = refl; listed = refl; found = λ n. refl }
 
-  pub one_marked : (path : Path) (k : PointKind) (n at : ℕ) → IsMarked (record { site = record { routine = r; path = path; kind = k; number = n }; at = at } ∷ []) (mark r k at ∷ []) []
-  one_marked path k n at = record { are = refl; found = λ n. refl }
+  pub one_marked : (path : Path) (k : PointKind) (n at : ℕ) → IsMarked (record { site = record { routine = r; path = path; kind = k; number = n }; at = at; asserts = [] } ∷ []) (mark r k at ∷ []) []
+  one_marked path k n at = record { are = refl; listed = refl; found = λ n. refl }
 
   pub marked_both : (xs ys : List Placed) (ms us : Marks) (ls ks : Labels) → IsMarked xs ms ls → IsMarked ys us ks → IsMarked (xs ++ ys) (ms ++ us) (ls ++ ks)
   marked_both xs ys ms us ls ks x y = record {
     are = map-append point_at xs ys ∙ ap (λ ps. ps ++ map point_at ys) x.are ∙ ap (λ ps. points_of ms ++ ps) y.are ∙ sym (map-append (λ (m : Mark). m.point) ms us);
+    listed = map-append asserts_of_placed xs ys ∙ ap (λ ls. ls ++ map asserts_of_placed ys) x.listed ∙ ap (λ ls. asserts_of ms ++ ls) y.listed ∙ sym (map-append (λ (m : Mark). m.asserts) ms us);
     found = λ n.
         ap (option_map before_at) (first_of_both ls ks n)
         ∙ or_first_mapped before_at (first_of ls n) (first_of ks n)
@@ -101,16 +106,17 @@ module _ (r : ℕ) where
   pub marked_then : (xs ys : List Placed) (ms us : Marks) (ls : Labels) → IsMarked xs ms ls → IsMarked ys us [] → IsMarked (xs ++ ys) (ms ++ us) ls
   marked_then xs ys ms us ls x y = marked_like _ _ _ _ _ _ refl refl (append-nil ls) (marked_both xs ys ms us ls [] x y)
 
-  own_marked : (path : Path) (at : ℕ) (asserts : List ℕ) (label : Option ℕ) → IsMarked (record { site = before_at path; at = at } ∷ []) (before_mark r at asserts label ∷ []) (own_label label path)
-  own_marked path at asserts None = record { are = refl; found = λ n. refl }
+  own_marked : (path : Path) (at : ℕ) (asserts : List ℕ) (label : Option ℕ) → IsMarked (record { site = before_at path; at = at; asserts = asserts } ∷ []) (before_mark r at asserts label ∷ []) (own_label label path)
+  own_marked path at asserts None = record { are = refl; listed = refl; found = λ n. refl }
   own_marked path at asserts (Some m) = record {
     are = refl;
+    listed = refl;
     found = λ n. tested_mapped before_at (nat_eq m n) path None ∙ ap (λ b. cond b (Some (before_at path)) None) (nat_eq_turned m n);
   }
 
   -- a statement with its point
-  pub statement_marked : (path : Path) (at : ℕ) (asserts : List ℕ) (label : Option ℕ) (xs : List Placed) (ms : Marks) (ls : Labels) → IsMarked xs ms ls → IsMarked (record { site = before_at path; at = at } ∷ xs) (before_mark r at asserts label ∷ ms) (own_label label path ++ ls)
-  statement_marked path at asserts label xs ms ls h = marked_both (record { site = before_at path; at = at } ∷ []) xs (before_mark r at asserts label ∷ []) ms (own_label label path) ls (own_marked path at asserts label) h
+  pub statement_marked : (path : Path) (at : ℕ) (asserts : List ℕ) (label : Option ℕ) (xs : List Placed) (ms : Marks) (ls : Labels) → IsMarked xs ms ls → IsMarked (record { site = before_at path; at = at; asserts = asserts } ∷ xs) (before_mark r at asserts label ∷ ms) (own_label label path ++ ls)
+  statement_marked path at asserts label xs ms ls h = marked_both (record { site = before_at path; at = at; asserts = asserts } ∷ []) xs (before_mark r at asserts label ∷ []) ms (own_label label path) ls (own_marked path at asserts label) h
 
   pub made_marked : (t : Tables) (path : Path) (n : ℕ) (source : Site) (sites : Sites) → IsMarked (made t r path n source sites).piece.points (call_marks r sites) []
   made_marked t path n source [] = none_marked

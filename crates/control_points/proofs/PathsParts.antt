@@ -41,7 +41,7 @@ module _ (g h : Site → ℕ) (plan : Plan) (label : ℕ → ℕ → Site) (r : 
   statement_first s path next k n =
       let d = out-Statement s in
       let opened = ap (λ z. place z path next) (sym (roll-out-Statement s)) ∙ statement_opened plan.tables plan.asserts r label d path next in
-      each_first (IsAt g h) k (record { site = start_of path; at = d.at }) (placed_body plan.tables plan.asserts r label d.body d.at path next).points
+      each_first (IsAt g h) k (record { site = start_of path; at = d.at; asserts = d.asserts }) (placed_body plan.tables plan.asserts r label d.body d.at path next).points
       (subst (λ (p : Piece). EachFrom (IsAt g h) k p.points) opened n)
 
   pub order_first : (n : ℕ) (body : List Statement) (path : Path) (next : Site) (k : ℕ) → 0 < length body → EachFrom (IsAt g h) k (in_order plan.tables plan.asserts r n (map place body) path next).points → g (start_of (path ++ n ∷ [])) ≡ k

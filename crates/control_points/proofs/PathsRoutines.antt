@@ -17,14 +17,14 @@ use Rattle.control_points.specs.declared.numbering.Mark.{Mark}
 use Rattle.control_points.specs.Labelled.{label_in}
 use Rattle.control_points.specs.Marks.{Marks, part_marks, routine_marks, routines_marks, starts}
 use Rattle.control_points.specs.Sites.{Piece, Placed, Site, block_piece, entry_of, exit_of, in_order, nothing, path_of, point_at, routines_piece, statement_labels}
-use Rattle.control_points.specs.Wired.{points_of}
+use Rattle.control_points.specs.Wired.{asserts_of, points_of}
 use Rattle.control_points.proofs.Blocks.{starts_first}
 use Rattle.control_points.proofs.Listed.{same_some}
 use Rattle.control_points.proofs.PathsBlocks.{IsBegin, begin_of, block, block_marked, block_once, labels_of_block}
 use Rattle.control_points.proofs.PathsLabels.{labels_counted, labels_lead}
 use Rattle.control_points.proofs.PathsLevels.{placed}
 use Rattle.control_points.proofs.PathsLists.{EachFrom, bit, each_first, each_front, each_past}
-use Rattle.control_points.proofs.PathsMarked.{IsMarked, before_at, first_of, marked_many, site_number}
+use Rattle.control_points.proofs.PathsMarked.{IsMarked, asserts_of_placed, before_at, first_of, marked_many, site_number}
 use Rattle.control_points.proofs.PathsOnce.{IsOnce, at_place, next_test, once_both, once_nothing, once_within, within, within_tested}
 
 abbrev pub AllOutermost : List Routine → Type 0
@@ -56,6 +56,16 @@ module _ (t : Tables) (asserts : List Assert) (label : ℕ → ℕ → Site) whe
       ∙ ap (λ ps. ps ++ map point_at rest) (routine_marked first d (o 0 d refl)).are
       ∙ ap (λ ps. points_of (routine_marks first d) ++ ps) (routines_points (suc first) routines (λ k e i. o (suc k) e i))
       ∙ sym (map-append (λ (m : Mark). m.point) (routine_marks first d) (routines_marks (suc first) routines))
+
+  pub routines_listed : (first : ℕ) (routines : List Routine) → AllOutermost routines → map asserts_of_placed (routines_piece t asserts label first routines).points ≡ asserts_of (routines_marks first routines)
+  routines_listed first [] o = refl
+  routines_listed first (d ∷ routines) o =
+      let front = (routine_block first d).points in
+      let rest = (routines_piece t asserts label (suc first) routines).points in
+      map-append asserts_of_placed front rest
+      ∙ ap (λ ls. ls ++ map asserts_of_placed rest) (routine_marked first d (o 0 d refl)).listed
+      ∙ ap (λ ls. asserts_of (routine_marks first d) ++ ls) (routines_listed (suc first) routines (λ k e i. o (suc k) e i))
+      ∙ sym (map-append (λ (m : Mark). m.asserts) (routine_marks first d) (routines_marks (suc first) routines))
 
   -- ---- how often a point stands there
 
@@ -120,8 +130,8 @@ module _ (t : Tables) (asserts : List Assert) (label : ℕ → ℕ → Site) (g 
   block_known r begin result body end m n known is =
       let P = λ (k : ℕ) (x : Placed). g x.site ≡ k in
       let order = (in_order t asserts r 0 (map (placed t asserts r label) body) [] (exit_of r)).points in
-      let last : Placed = record { site = exit_of r; at = end } in
-      let first : Placed = record { site = entry_of r; at = begin } in
+      let last : Placed = record { site = exit_of r; at = end; asserts = [] } in
+      let first : Placed = record { site = entry_of r; at = begin; asserts = [] } in
       let many = marked_many r _ _ _ (block_marked t asserts r label begin result body end) in
       let long = length-append order (last ∷ []) in
       let rest = each_past P m (m + 1) (first ∷ []) (order ++ last ∷ []) refl known in

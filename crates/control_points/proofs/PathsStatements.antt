@@ -29,14 +29,14 @@ use Rattle.control_points.specs.Edges.{laid_arm, laid_body, laid_statement}
 use Rattle.control_points.specs.Extents.{Extent, arm_extent, statement_extent}
 use Rattle.control_points.specs.Pieces.{Plan, procedure_call}
 use Rattle.control_points.specs.Pieces as pieces
-use Rattle.control_points.specs.Sites.{Path, Piece, Placed, Placing, Site, action, arms_from, before, body_step, both, call_checks, call_links, condition, in_order, judged, line_act, made, no_arms, nothing, point_of, statement_step, way}
+use Rattle.control_points.specs.Sites.{Path, Piece, Placed, Placing, Site, action, arms_from, asserted_point, before, body_step, both, call_checks, call_links, condition, in_order, judged, line_act, made, no_arms, nothing, point_of, statement_step, way}
 use Rattle.control_points.specs.Sites as sites
 use Rattle.control_points.proofs.Fitting.{EachSite, Passes, both_sites, no_site, rule_of_access, rule_of_actuals, rule_of_expr}
 use Rattle.control_points.proofs.Followed.{both_again}
 use Rattle.control_points.proofs.Laying.{arm_piece_is, points_of_laid}
 use Rattle.control_points.proofs.Listed.{same_some}
 use Rattle.control_points.proofs.PathsActions.{AreReady, action_draws, action_many, condition_draws, reads_draw, two_ways_draw, writes_draw}
-use Rattle.control_points.proofs.PathsDrawn.{Draws, IsAt, IsReady, draws_both, draws_call, draws_inner, draws_judged, draws_knowing, draws_like, draws_nothing, draws_point, draws_way, none_before, none_behind, same_behind}
+use Rattle.control_points.proofs.PathsDrawn.{Draws, IsAt, IsReady, draws_asserted, draws_both, draws_call, draws_inner, draws_judged, draws_knowing, draws_like, draws_nothing, draws_point, draws_way, none_before, none_behind, same_behind}
 use Rattle.control_points.proofs.PathsLevels.{body_opened, placed, placed_arm, placed_body, placed_in, statement_opened}
 use Rattle.control_points.proofs.PathsLists.{each_first, each_front, each_past}
 use Rattle.control_points.proofs.Sized.{arm_is, arm_rule}
@@ -288,8 +288,8 @@ module _ (g h : Site → ℕ) (plan : Plan) (label : ℕ → ℕ → Site) (r : 
       (pieces.both pieces.nothing (pieces.both (pieces.way s act.Skip (s + 1)) (pieces.both (numbers.in_order plan (map (laid_statement plan) (statements body)) (here + 1) k) tested)))) (same_here here)
       (entered_body g h plan label r path (both front (both (point_of last until) test)) here _ e
       (λ known.
-      let first : g inside ≡ here + 1 = order_first g h plan label r 0 (statements body) path last (here + 1) many (each_front (IsAt g h) (here + 1) front.points (record { site = last; at = until } ∷ test.points) known) in
-      let there : g last ≡ k = each_first (IsAt g h) k (record { site = last; at = until }) test.points (each_past (IsAt g h) (here + 1) k front.points (record { site = last; at = until } ∷ test.points) long known) in (
+      let first : g inside ≡ here + 1 = order_first g h plan label r 0 (statements body) path last (here + 1) many (each_front (IsAt g h) (here + 1) front.points (record { site = last; at = until; asserts = [] } ∷ test.points) known) in
+      let there : g last ≡ k = each_first (IsAt g h) k (record { site = last; at = until; asserts = [] }) test.points (each_past (IsAt g h) (here + 1) k front.points (record { site = last; at = until; asserts = [] } ∷ test.points) long known) in (
         first,
         draws_both g h front (both (point_of last until) test) (here + 1) k _ tested long (order_draws 0 body path last (here + 1) k p1.1 o1.1 there)
             (draws_like g h (both (point_of last until) test) k (pieces.both pieces.nothing tested) tested (none_before tested)
@@ -321,8 +321,8 @@ module _ (g h : Site → ℕ) (plan : Plan) (label : ℕ → ℕ → Site) (r : 
       (draws_knowing g h (both front behind) (here + 1) _
       (λ known.
       let rest = each_past (IsAt g h) (here + 1) (source + 1) front.points behind.points many known in
-      let in_is : g inside ≡ source + 1 = statement_first g h plan label r body.0 (path ++ 0 ∷ []) step (source + 1) (each_front (IsAt g h) (source + 1) turn.points (record { site = step; at = at } ∷ []) rest) in
-      let step_is : g step ≡ k = each_first (IsAt g h) k (record { site = step; at = at }) [] (each_past (IsAt g h) (source + 1) k turn.points (record { site = step; at = at } ∷ []) long rest) in
+      let in_is : g inside ≡ source + 1 = statement_first g h plan label r body.0 (path ++ 0 ∷ []) step (source + 1) (each_front (IsAt g h) (source + 1) turn.points (record { site = step; at = at; asserts = [] } ∷ []) rest) in
+      let step_is : g step ≡ k = each_first (IsAt g h) k (record { site = step; at = at; asserts = [] }) [] (each_past (IsAt g h) (source + 1) k turn.points (record { site = step; at = at; asserts = [] } ∷ []) long rest) in
       draws_inner g h front behind (here + 1) (source + 1) (pieces.calls plan calls here) (pieces.bounds plan control bound first down final source n) (numbers.loop_piece plan control bound down (laid_statement plan body.0) source n) many
       (action_draws g h plan r plan.asserts path start calls faults ways here _ (sites_ready calls (both_sites (Passes q) (expr_calls first) (expr_calls final) (rule_of_expr q first p1.0) (rule_of_expr q final p2.0))) e
       (λ point i. two_ways_draw g h plan r plan.asserts point inside next (act.Enter control bound first down final) (act.Bypass control bound first down final) (here + 1 + length calls) source (source + 1) n i in_is f))
@@ -347,12 +347,12 @@ module _ (g h : Site → ℕ) (plan : Plan) (label : ℕ → ℕ → Site) (r : 
       let behind = both (judged start faults) inner in
       let drawn = pieces.both (pieces.judged here faults) (numbers.body_piece plan y.body.0 here n) in
       subst (λ z. Draws g h z here (numbers.statement_piece plan (roll-Statement d) here n)) (sym (statement_opened plan.tables plan.asserts r label d path next))
-      (subst (λ (z : numbers.Placing). Draws g h (both (point_of start y.at) behind) here (z here n)) (sym (para-roll-Statement numbers.Placing numbers.Placing numbers.Placing (numbers.body_step plan) (λ z. z.body.1) (numbers.statement_step plan) d))
-      (draws_knowing g h (both (point_of start y.at) behind) here drawn
+      (subst (λ (z : numbers.Placing). Draws g h (both (asserted_point start y.at y.asserts) behind) here (z here n)) (sym (para-roll-Statement numbers.Placing numbers.Placing numbers.Placing (numbers.body_step plan) (λ z. z.body.1) (numbers.statement_step plan) d))
+      (draws_knowing g h (both (asserted_point start y.at y.asserts) behind) here drawn
       (λ known.
-      let e : g start ≡ here = each_first (IsAt g h) here (record { site = start; at = y.at }) inner.points known in
-      draws_like g h (both (point_of start y.at) behind) here (pieces.both pieces.nothing drawn) drawn (none_before drawn)
-      (draws_both g h (point_of start y.at) behind here (here + 1) pieces.nothing drawn refl (draws_point g h start y.at here)
+      let e : g start ≡ here = each_first (IsAt g h) here (record { site = start; at = y.at; asserts = y.asserts }) inner.points known in
+      draws_like g h (both (asserted_point start y.at y.asserts) behind) here (pieces.both pieces.nothing drawn) drawn (none_before drawn)
+      (draws_both g h (asserted_point start y.at y.asserts) behind here (here + 1) pieces.nothing drawn refl (draws_asserted g h start y.at y.asserts here)
       (draws_both g h (judged start faults) inner (here + 1) (here + 1) _ _ (omega arith) (draws_judged g h start faults (here + 1) here e) (y.body.1 p.1 o.1 y.at path next here n e f))))))
 
   statement_draws : (s : Statement) → OfStatement s

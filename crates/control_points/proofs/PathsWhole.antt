@@ -10,7 +10,7 @@ use Rattle.pas_program.specs.declared.statement.Body.TheOpen.{Body-F}
 use Rattle.pas_program.specs.declared.statement.Body.TheViews.{out-Body, out-Statement, roll-Body, roll-out-Body}
 use Rattle.pas_program.specs.Checked.{tables}
 use Rattle.pas_program.specs.Each.{Rule, each_statement}
-use Rattle.pas_program.specs.Labels.{LabelsStand, count_labelled, label_rule}
+use Rattle.pas_program.specs.Labels.{count_labelled, label_rule}
 use Rattle.pas_program.specs.Scopes.{is_outermost, scope_rule}
 use Rattle.pas_program.specs.Tables.{Head, holds_of, is_around, is_callable, head_of}
 use Rattle.control_points.specs.declared.flow.Flow.{Flow}
@@ -24,7 +24,7 @@ use Rattle.control_points.specs.Labelled.{label_in}
 use Rattle.control_points.specs.Marks.{mark, part_marks, routine_marks, routines_marks, starts, statements_marks}
 use Rattle.control_points.specs.Pieces.{Plan}
 use Rattle.control_points.specs.Sites.{Deed, IsFlowOf, Link, Piece, Placed, Site, act_of, block_piece, calls, does, edge_at, is_call_from, label_site, labels_of_body, path_of, point_number, program_piece, returns, routines_piece, same_kind, same_path, same_site}
-use Rattle.control_points.specs.Wired.{points_of}
+use Rattle.control_points.specs.Wired.{asserts_of, points_of}
 use Rattle.control_points.proofs.Blocks.{starts_first}
 use Rattle.control_points.proofs.Inside.{nat_eq_self, statements_inside}
 use Rattle.control_points.proofs.Listed.{found_of}
@@ -34,7 +34,7 @@ use Rattle.control_points.proofs.PathsDrawn.{Draws, IsCall, IsReady, act_by, dra
 use Rattle.control_points.proofs.PathsLists.{EachFrom, only_position, times}
 use Rattle.control_points.proofs.PathsMarked.{before_at}
 use Rattle.control_points.proofs.PathsOnce.{IsOnce, bit_small, once_within}
-use Rattle.control_points.proofs.PathsRoutines.{AllOutermost, IsKnown, begins, routine_block, routine_many, routine_range, routines_known, routines_once, routines_points}
+use Rattle.control_points.proofs.PathsRoutines.{AllOutermost, IsKnown, begins, routine_block, routine_many, routine_range, routines_known, routines_listed, routines_once, routines_points}
 
 -- ---- numbers of points and of calls
 
@@ -140,7 +140,7 @@ held : {A : Type 0} (f : A → Bool) (o : Option A) → holds_of f o ≡ true �
 held f None h = absurd (true≢false (sym h))
 held f (Some x) h = (x, refl, h)
 
-module _ (p : Program) (stand : LabelsStand p.routines) where
+module _ (p : Program) where
   abbrev label : ℕ → ℕ → Site
   label = label_site p.routines
 
@@ -184,23 +184,25 @@ module _ (p : Program) (stand : LabelsStand p.routines) where
   program_draws : Draws g h (program_piece p) 0 (numbers.program_piece p)
   program_draws =
       routines_draw g h (plan_of p) label (scope_rule (tables p)) (label_rule p.routines) program_ready (λ r n e. ltb-true 0 n e) program_jumps 0 p.routines 0 p.in_scope.outermost
-      (λ k d e. let same : k ≡ 0 + k = omega arith in subst (λ r. RoutineRules (scope_rule (tables p) r) (label_rule p.routines) d) same (record { scopes = p.in_scope.body k d e; labels = stand.each k d e }))
+      (λ k d e. let same : k ≡ 0 + k = omega arith in subst (λ r. RoutineRules (scope_rule (tables p) r) (label_rule p.routines) d) same (record { scopes = p.in_scope.body k d e; labels = p.labels_stand.each k d e }))
       (λ k. let same : 0 + k ≡ k = omega arith in ap (slice_index (starts 0 0 p.routines)) same)
 
-  pub paths_are_numbers : IsFlowOf p (points_of (routines_marks 0 p.routines)) (edges_of p) (checks_of p)
+  pub paths_are_numbers : IsFlowOf p (points_of (routines_marks 0 p.routines)) (asserts_of (routines_marks 0 p.routines)) (edges_of p) (checks_of p)
   paths_are_numbers =
       let gives = program_draws.drawn (numbered (program_piece p) program_once) 0 (calls_numbered (program_piece p) program_once) in
       record {
         points_are = sym (routines_points (tables p) p.asserts label 0 p.routines p.in_scope.outermost);
+        asserts_are = sym (routines_listed (tables p) p.asserts label 0 p.routines p.in_scope.outermost);
         edges_are = sym (same_edges (program_piece p) program_once (program_piece p).links ∙ gives.edges);
         checks_are = sym gives.checks;
       }
 
-pub flow_is_of_paths : (f : Flow) → LabelsStand f.program.routines → IsFlowOf f.program f.points f.edges f.checks
-flow_is_of_paths f stand =
-    let w = paths_are_numbers f.program stand in
+pub flow_is_of_paths : (f : Flow) → IsFlowOf f.program f.points f.asserts f.edges f.checks
+flow_is_of_paths f =
+    let w = paths_are_numbers f.program in
     record {
       points_are = f.exact.points_are ∙ w.points_are;
+      asserts_are = f.exact.asserts_are ∙ w.asserts_are;
       edges_are = f.exact.edges_are ∙ w.edges_are;
       checks_are = f.exact.checks_are ∙ w.checks_are;
     }

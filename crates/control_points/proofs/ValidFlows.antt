@@ -17,6 +17,7 @@ use Rattle.control_points.specs.Acts.{each_act}
 use Rattle.control_points.specs.Flows.{chart_of}
 use Rattle.control_points.specs.Leading.{EdgesLead, EdgesPair, EntriesFit}
 use Rattle.control_points.specs.WellFormed.{TablesFit, IsWellFormed}
+use Rattle.control_points.proofs.JudgedFlows.{edges_alike}
 use Rattle.control_points.proofs.ValidBasics.{map_found, holds_found, same_kind}
 
 item_found : {A : Type 0} (xs : List A) (k : ℕ) → k < length xs → (x : A) × (slice_get xs k ≡ Some x)
@@ -122,4 +123,5 @@ flow_is_well_formed f entries leads pairs =
       calls = f.calls_return;
       leads = leads;
       pairs = pairs;
+      alike = edges_alike f;
     }

@@ -1,5 +1,5 @@
--- In a valid state an error of a step is one that the action of an edge may be that leaves the point, or one without a check.
-use Rattle.std.proofs.Common.{◌≡◌, ℕ, ◌<◌, ◌⊎◌, Bool, true, false, cond, ◌&&◌, List, [], ◌∷◌, ◌++◌, ℤ, int_eq, T, All, Contains, map, length, refl, sym, ap, subst, ◌∙◌, inl, inr, Ok, Err, Option, Some, None, option_map, slice_get, nat_eq, eqb-true, arith, zero-add}
+-- In a valid state an error of a step is that of a judgement of the point, or one without a check.
+use Rattle.std.proofs.Common.{◌≡◌, ℕ, ◌<◌, ◌⊎◌, Bool, true, false, cond, ◌&&◌, List, [], ◌∷◌, ◌++◌, ℤ, int_eq, T, All, Contains, map, length, refl, sym, ap, subst, ◌∙◌, inl, inr, Ok, Err, Option, Some, None, option_and_then, option_map, slice_get, nat_eq, eqb-true, arith, zero-add}
 use Rattle.std.proofs.lemmas.Bool.{and_parts, and_from, cases_Bool, cond-true, cond-false, true≢false}
 use Rattle.std.proofs.lemmas.List.Elements.{All-head, All-tail, Contains-append_left, Contains-append_right}
 use Rattle.std.proofs.lemmas.Option.{none-some, same_Some}
@@ -30,7 +30,7 @@ use Rattle.control_points.specs.declared.fault.Fault.{Fault}
 use Rattle.control_points.specs.declared.item.Item.{Item}
 use Rattle.control_points.specs.declared.item.Item.TheVariants.{Number, LineEnd, Junk}
 use Rattle.control_points.specs.Actions as Actions
-use Rattle.control_points.specs.Actions.{Effect, Outcome, Passing, top_depth, top_call, was_made_by, slot_at, result_of, result_value, fits_type, view, does, assign, copy, pass_to, pass, call, give_back, return_from, test, arm, is_one_of, in_order, comes_before, range_of, enter, bypass, next_turn, finish, with_taken, read, written_value, write_in, write, effect_of}
+use Rattle.control_points.specs.Actions.{Effect, Outcome, Passing, top_depth, top_call, was_made_by, slot_at, slot_of, result_of, result_value, fits_type, view, does, assign, copy, pass_to, pass, call, give_back, return_from, test, arm, is_one_of, in_order, comes_before, range_of, enter, bypass, next_turn, finish, with_taken, read, written_value, write_in, write, effect_of}
 use Rattle.control_points.specs.Acts.{each_act, act_types_fit}
 use Rattle.control_points.specs.Chart.{Chart, leaving, place_of_point}
 use Rattle.control_points.specs.Checking.{Faults, one, one_if, is_narrow, expr_checks, access_checks, assigned_checks, actual_checks, passing_checks, formals_of, read_checks, written_checks, width_checks, item_checks, bounds_checks}
@@ -38,7 +38,8 @@ use Rattle.control_points.specs.Evaluation.{Answer, View, Spot, checked, defined
 use Rattle.control_points.specs.Fits.{routine_at}
 use Rattle.control_points.specs.Foreseen.{IsForeseen, act_checks, unchecked, returned_checks, expr_slots, access_slots, actual_slots, actuals_slots, written_slots, width_slots}
 use Rattle.control_points.specs.Input.{Taken, next_number}
-use Rattle.control_points.specs.Leading.{is_arm}
+use Rattle.control_points.specs.Judgements.{faults_of, own_judgements}
+use Rattle.control_points.specs.Leading.{is_arm, is_return}
 use Rattle.control_points.specs.Output.{Written, is_width}
 use Rattle.control_points.specs.Runs.{IsInput, IsInputItem}
 use Rattle.control_points.specs.States.{State}
@@ -47,9 +48,10 @@ use Rattle.control_points.specs.Storage.{whole}
 use Rattle.control_points.specs.ValidStates.{IsOf, IsValid}
 use Rattle.control_points.specs.WellFormed.{IsWellFormed}
 use Rattle.control_points.proofs.ValidBasics.{same_Ok, then_ok, holds_found}
-use Rattle.control_points.proofs.ValidCalls.{CallFits, call_is_fit, each_actual_is, passed_is, ruled_step, typed_step}
+use Rattle.control_points.proofs.ValidCalls.{CallFits, IsCalled, call_is_fit, called_found, each_actual_is, passed_is, ruled_step, typed_step}
 use Rattle.control_points.proofs.ValidChoices.{no_action_is_case}
 use Rattle.control_points.proofs.ValidErrors.{Seen, same_Err, no_value, then_error, checked_error, defined_error, listed_one, listed_if, seen_left, seen_right, seen_first, narrow_from, expr_error, access_error}
+use Rattle.control_points.proofs.ValidJudged.{edge_listed, exit_listed, judged_error}
 use Rattle.control_points.proofs.ValidPlaces.{from_variable, reached_is, spot_is, var_type_is}
 use Rattle.control_points.proofs.ValidStacks.{latest_found, standing_routine}
 use Rattle.control_points.proofs.ValidSteps.{IsNumbered, numbers_found}
@@ -111,9 +113,9 @@ if_error : (b : Bool) (x : Outcome) (f : Fault) → cond b x (Ok None) ≡ Err f
 if_error true x f h = h
 if_error false x f h = absurd (no_value _ f h)
 
-joined_seen : (xs ys : Faults) (f : Fault) → Seen xs ys f → Contains (xs ++ ys) f
-joined_seen xs ys f (inl h) = Contains-append_left xs ys f h
-joined_seen xs ys f (inr h) = Contains-append_right xs ys f h
+error_if_done : (b : Bool) (x : Outcome) (f : Fault) → cond b x (Ok None) ≡ Err f → (b ≡ true) × (x ≡ Err f)
+error_if_done true x f h = (refl, h)
+error_if_done false x f h = absurd (no_value _ f h)
 
 -- ---- the actions of the latest activation, which is one of routine r
 
@@ -406,24 +408,45 @@ module _ (c : Chart) (w : IsWellFormed c) (s : State) (v : IsValid c s) (r : ℕ
   edge_known : (k : ℕ) → (x : Leaves k) → slice_get c.edges k ≡ Some x.item
   edge_known k x = ap (slice_get c.edges) (sym x.number ∙ zero-add x.index) ∙ x.known
 
+  -- the error of a return is that its function has no result
+  return_error : (k : ℕ) (e : Edge) → slice_get c.edges k ≡ Some e → (a : Act) → e.act ≡ a → is_return a ≡ true → (f : Fault) → effect_of c s k (place_of_point c.points e.from) a ≡ Err f → Contains (faults_of (own_judgements c e.from)) f
+  return_error k e known (act.Return j) is on f h =
+      let place = place_of_point c.points e.from in
+      let made = error_if_done (was_made_by j (top_call s.stack)) (give_back c s place (slot_at c.edges j)) f h in
+      let x = called_found c s.stack v.stack j made.0 in
+      let slot : slot_at c.edges j ≡ slot_of x.site.act = ap (option_and_then (λ (g : Edge). slot_of g.act)) x.known in
+      returned x (slot_of x.site.act) refl (ap (give_back c s place) (sym slot) ∙ made.1)
+    where
+      returned : (x : IsCalled c s.stack j) (o : Option ℕ) → slot_of x.site.act ≡ o → give_back c s (place_of_point c.points e.from) o ≡ Err f → Contains (faults_of (own_judgements c e.from)) f
+      returned x None slot h = absurd (no_value _ f h)
+      returned x (Some u) slot h =
+          let place = place_of_point c.points e.from in
+          elim (then_error (result_value place (s.store (whole (top_depth s.stack) (result_of c s.stack)))) _ f h) [
+            | inl g ↦ exit_listed c w j k x.site e x.callee u x.known x.calls slot known is f (result_error place (s.store (whole (top_depth s.stack) (result_of c s.stack))) f g)
+            | inr y ↦ absurd (no_value _ f y.2)
+          ]
+  return_error k e known _ is on f h = absurd (true≢false (sym on))
+
+  -- the error of an edge that leaves the point
+  edge_error : (k : ℕ) (e : Edge) → slice_get c.edges k ≡ Some e → e.from ≡ point_of s.stack → (stands : routine_at c.points (point_of s.stack) ≡ Some r) → (f : Fault) → effect_of c s k (place_of_point c.points e.from) e.act ≡ Err f → IsForeseen c s f
+  edge_error k e known from stands f h =
+      let place = place_of_point c.points e.from in
+      let there : routine_at c.points e.from ≡ Some r = ap (routine_at c.points) from ∙ stands in
+      elim (cases_Bool (is_return e.act)) [
+        | inl on ↦ inl (judged_error c s e.from f from (return_error k e known e.act refl on f h))
+        | inr on ↦ elim (act_seen e.act (w.scopes k r e known there) (w.types k e known) k place f h) [
+          | inl g ↦ inl (judged_error c s e.from f from (edge_listed c w k e known r there on place f g))
+          | inr g ↦ inr (record { number = k; edge = e; known = known; leaves = from; listed = g })
+        ]
+      ]
+
   -- the error of the first edge that has one
   error_here : (k : ℕ) → Leaves k → (stands : routine_at c.points (point_of s.stack) ≡ Some r) → (f : Fault) (o : Outcome) (others : Answer (Option State)) → edge_effect c s k (slice_get c.edges k) ≡ o → (others ≡ Err f → IsForeseen c s f) → or_else c s k o others ≡ Err f → IsForeseen c s f
   error_here k x stands f (Ok (Some e)) others is rest h = absurd (no_value _ f h)
   error_here k x stands f (Ok None) others is rest h = rest h
   error_here k x stands f (Err g) others is rest h =
       let known = edge_known k x in
-      let from = eqb-true (x.item).from (point_of s.stack) x.passes in
-      let place = place_of_point c.points (x.item).from in
-      record {
-        number = k;
-        edge = x.item;
-        known = known;
-        leaves = from;
-        listed =
-            joined_seen (act_checks c place (x.item).act) (unchecked c place (x.item).act) f
-            (act_seen (x.item).act (w.scopes k r x.item known (ap (routine_at c.points) from ∙ stands)) (w.types k x.item known) k place f
-            (ap (edge_effect c s k) (sym known) ∙ is ∙ ap Err (same_Err {A = Option State} g f h)));
-      }
+      edge_error k x.item known (eqb-true (x.item).from (point_of s.stack) x.passes) stands f (ap (edge_effect c s k) (sym known) ∙ is ∙ ap Err (same_Err {A = Option State} g f h))
 
   pub first_error : (stands : routine_at c.points (point_of s.stack) ≡ Some r) (ks : List ℕ) → All Leaves ks → (f : Fault) → first_done c s ks ≡ Err f → IsForeseen c s f
   first_error stands [] all f h = absurd (no_value _ f h)
@@ -435,7 +458,11 @@ arm_listed : (c : Chart) (place : ℕ) (a : Act) (f : Fault) → is_arm a ≡ tr
 arm_listed c place (act.Arm selector constants) f arm h = Contains-append_right (expr_checks c.tables selector) _ f (listed_one kinds.NoCaseLabel (out-Expr selector).first f h)
 arm_listed c place _ f arm h = absurd (true≢false (sym arm))
 
-module _ (c : Chart) (s : State) where
+arm_goes_on : (a : Act) → is_arm a ≡ true → is_return a ≡ false
+arm_goes_on (act.Arm selector constants) h = refl
+arm_goes_on _ h = absurd (true≢false (sym h))
+
+module _ (c : Chart) (w : IsWellFormed c) (s : State) (r : ℕ) (stands : routine_at c.points (point_of s.stack) ≡ Some r) where
   case_foreseen : (ks : List ℕ) → All (IsNumbered c.edges (λ (e : Edge). nat_eq e.from (point_of s.stack)) 0) ks → 0 < length ks → ((k : ℕ) (e : Edge) → slice_get c.edges k ≡ Some e → e.from ≡ point_of s.stack → is_arm e.act ≡ true)
       → (f : Fault) → ◌≡◌ {A = Fault} (record { kind = kinds.NoCaseLabel; at = selector_of c ks }) f → IsForeseen c s f
   case_foreseen [] all some arms f h = absurd (omega arith)
@@ -444,16 +471,12 @@ module _ (c : Chart) (s : State) where
       let known : slice_get c.edges k ≡ Some x.item = ap (slice_get c.edges) (sym x.number ∙ zero-add x.index) ∙ x.known in
       let from = eqb-true (x.item).from (point_of s.stack) x.passes in
       let place = place_of_point c.points (x.item).from in
-      record {
-        number = k;
-        edge = x.item;
-        known = known;
-        leaves = from;
-        listed =
-            Contains-append_left (act_checks c place (x.item).act) (unchecked c place (x.item).act) f
-            (arm_listed c place (x.item).act f (arms k x.item known from) (ap (λ o. record { kind = kinds.NoCaseLabel; at = selector_place o }) (sym known) ∙ h));
-      }
+      let arm = arms k x.item known from in
+      inl (judged_error c s (x.item).from f from
+      (edge_listed c w k x.item known r (ap (routine_at c.points) from ∙ stands) (arm_goes_on (x.item).act arm) place f
+      (arm_listed c place (x.item).act f arm (ap (λ o. record { kind = kinds.NoCaseLabel; at = selector_place o }) (sym known) ∙ h))))
 
+module _ (c : Chart) (s : State) where
   same_fault : (f g : Fault) → fails f ≡ fails g → f ≡ g
   same_fault f g h = cc
 
@@ -482,6 +505,6 @@ error_is_foreseen c w s v f h =
         | inl g ↦ first_error c w s v r.0 here r.1 ks all f g
         | inr n ↦
             let x = no_action_is_case c w s v e n.0 in
-            case_foreseen c s ks all x.leads x.arms f n.1
+            case_foreseen c w s r.0 r.1 ks all x.leads x.arms f n.1
       ]
     ]

@@ -1,5 +1,5 @@
 -- The errors that an action may be, told of actions as `Checking` tells them of statements; and those for which no check stands.
-use Rattle.std.specs.Prelude.{◌≡◌, ℕ, List, [], ◌∷◌, ◌++◌, Contains, Option, Some, None, slice_get}
+use Rattle.std.specs.Prelude.{◌≡◌, ◌⊎◌, ℕ, List, [], ◌∷◌, ◌++◌, Contains, Option, Some, None, slice_get}
 use Rattle.px_base.specs.declared.kind.Kind.TheVariants.{UndefinedValue, NoResult}
 use Rattle.pas_program.specs.declared.expr.Access.{Access}
 use Rattle.pas_program.specs.declared.expr.Actual.{Actual}
@@ -18,6 +18,7 @@ use Rattle.control_points.specs.Actions.{slot_at}
 use Rattle.control_points.specs.Chart.{Chart, place_of_point}
 use Rattle.control_points.specs.Checking.{Faults, one, expr_checks, access_checks, assigned_checks, passing_checks, read_checks, item_checks, selector_checks, bounds_checks, formals_of}
 use Rattle.control_points.specs.Evaluation.{access_type, var_type}
+use Rattle.control_points.specs.Judgements.{Judgement, fault_of, point_judgements}
 use Rattle.control_points.specs.States.{State}
 use Rattle.control_points.specs.Steps.{point_of}
 
@@ -102,10 +103,21 @@ module _ (c : Chart) (at : ℕ) where
   unchecked (act.Write item) = written_slots item.value ++ width_slots item.width
   unchecked _ = []
 
--- the error is one that the action of an edge may be that leaves the point of the state
-pub record IsForeseen (c : Chart) (s : State) (f : Fault) : Type 0 where
+-- the error is that of a judgement of the point of the state: of this number among them
+pub record IsJudgedError (c : Chart) (s : State) (f : Fault) : Type 0 where
+  pub number : ℕ
+  pub judgement : Judgement
+  pub known : slice_get (point_judgements c (point_of s.stack)) number ≡ Some judgement
+  pub same : fault_of judgement ≡ f
+
+-- the error is one without a check, of the action of an edge that leaves the point of the state
+pub record IsUncheckedError (c : Chart) (s : State) (f : Fault) : Type 0 where
   pub number : ℕ
   pub edge : Edge
   pub known : slice_get c.edges number ≡ Some edge
   pub leaves : edge.from ≡ point_of s.stack
-  pub listed : Contains (act_checks c (place_of_point c.points edge.from) edge.act ++ unchecked c (place_of_point c.points edge.from) edge.act) f
+  pub listed : Contains (unchecked c (place_of_point c.points edge.from) edge.act) f
+
+-- an error that a step from the state may be
+abbrev pub IsForeseen : Chart → State → Fault → Type 0
+IsForeseen c s f = IsJudgedError c s f ⊎ IsUncheckedError c s f

@@ -14,6 +14,7 @@ pub mod Fits
 pub mod Flows
 pub mod Foreseen
 pub mod Input
+pub mod Judgements
 pub mod Judging
 pub mod Labelled
 pub mod Leading
@@ -28,6 +29,7 @@ pub mod Sites
 pub mod States
 pub mod Steps
 pub mod Storage
+pub mod Thresholds
 pub mod ValidStates
 pub mod WellFormed
 pub mod Wired

@@ -1,4 +1,4 @@
--- The points, edges and checks of a program, by the tree of its text: a point is a routine, the path of a statement in the routine's
+-- The points with their assertions, the edges and the checks of a program, by the tree of its text: a point is a routine, the path of a statement in the routine's
 -- body, and a word that says where in the statement it lies. `next` is the point that follows a statement.
 use Rattle.std.specs.Prelude.{◌≡◌, ℕ, suc, Bool, true, false, ◌&&◌, List, [], ◌∷◌, ◌++◌, map, ℤ, nat_eq, slice_get, Option, Some, None, unwrap_or, position, if◌then◌else◌}
 use Rattle.pas_program.specs.declared.expr.Access.{Access}
@@ -43,10 +43,11 @@ pub record Site : Type 0 where
   pub kind : PointKind
   pub number : ℕ
 
--- a point with its place in the source
+-- a point with its place in the source, and with the assertions that stand there
 pub record Placed : Type 0 where
   pub site : Site
   pub at : ℕ
+  pub asserts : List ℕ
 
 -- What is done on an edge; a return is that of the call that leaves a point.
 pub data Deed : Type 0 where
@@ -85,8 +86,12 @@ judged s faults = record { points = []; links = []; checks = map (judged_at s) f
 abbrev pub link : Site → Deed → Site → Link
 link source deed target = record { source = source; deed = deed; target = target }
 
+abbrev pub asserted_point : Site → ℕ → List ℕ → Piece
+asserted_point site at asserts = record { points = record { site = site; at = at; asserts = asserts } ∷ []; links = []; checks = [] }
+
+-- no assertion stands there
 abbrev pub point_of : Site → ℕ → Piece
-point_of site at = record { points = record { site = site; at = at } ∷ []; links = []; checks = [] }
+point_of site at = asserted_point site at []
 
 abbrev pub way : Site → Act → Site → Piece
 way source action target = record { points = []; links = link source (does action) target ∷ []; checks = [] }
@@ -230,8 +235,9 @@ module _ (t : Tables) (asserts : List Assert) (r : ℕ) where
       (both (point_of (site kind.Until 0 path) until) (condition path (site kind.Until 0 path) cond next (before (inner path 0)))))
   body_step label (Body-F.For control bound first down final body) at path next = loop_piece control bound first down final at body path next
 
+  -- a statement with the point before it, which has the statement's assertions
   abbrev pub statement_step : (ℕ → ℕ → Site) → Statement-F (ℕ → Placing) (List ℤ × Placing) Placing → Placing
-  statement_step label s path next = both (point_of (before path) s.at) (both (judged (before path) (assert_checks asserts s.asserts)) (s.body s.at path next))
+  statement_step label s path next = both (asserted_point (before path) s.at s.asserts) (both (judged (before path) (assert_checks asserts s.asserts)) (s.body s.at path next))
 
   abbrev pub statement_piece : (ℕ → ℕ → Site) → Statement → Placing
   statement_piece label = fold-Statement (ℕ → Placing) (List ℤ × Placing) Placing (body_step label) (λ a. (a.consts, a.body)) (statement_step label)
@@ -344,8 +350,9 @@ edge_at piece l = record { from = point_number piece.points l.source; act = act_
 abbrev pub check_at : Piece → Judged → Check
 check_at piece j = record { kind = j.fault.kind; at = j.fault.at; point = point_number piece.points j.site }
 
--- these are the points, edges and checks of the program, in this order
-pub record IsFlowOf (p : Program) (points : List Point) (edges : List Edge) (checks : List Check) : Type 0 where
+-- these are the points, the assertions of each of them, the edges and the checks of the program, in this order
+pub record IsFlowOf (p : Program) (points : List Point) (asserts : List (List ℕ)) (edges : List Edge) (checks : List Check) : Type 0 where
   pub points_are : points ≡ map point_at (program_piece p).points
+  pub asserts_are : asserts ≡ map (λ (x : Placed). x.asserts) (program_piece p).points
   pub edges_are : edges ≡ map (edge_at (program_piece p)) (program_piece p).links
   pub checks_are : checks ≡ map (check_at (program_piece p)) (program_piece p).checks

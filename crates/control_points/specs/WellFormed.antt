@@ -11,6 +11,7 @@ use Rattle.control_points.specs.declared.edge.Edge.{Edge}
 use Rattle.control_points.specs.Acts.{each_act, act_types_fit}
 use Rattle.control_points.specs.Chart.{Chart, entry_of}
 use Rattle.control_points.specs.Fits.{CallsReturn, routine_at}
+use Rattle.control_points.specs.Judgements.{EdgesJudgeAlike}
 use Rattle.control_points.specs.Leading.{EdgesLead, EdgesPair}
 
 -- Tables of a checked program: its block has no routine around it and no parameters, a routine's formals are variables of it, its
@@ -34,3 +35,4 @@ pub record IsWellFormed (c : Chart) : Type 0 where
   pub calls : CallsReturn c.points c.edges
   pub leads : EdgesLead c.points c.edges
   pub pairs : EdgesPair c.main c.points c.edges
+  pub alike : EdgesJudgeAlike c

@@ -1,4 +1,4 @@
-ghost use Rattle.std.specs.Prelude.{◌≡◌, ◌<◌, length, slice_get};
+ghost use Rattle.std.specs.Prelude.{◌≡◌, ◌<◌, length, slice_get, suc};
 ghost use Rattle.control_points.specs.Chart.{leaving, arriving};
 ghost use Rattle.control_points.specs.Exact.{IsExact};
 ghost use Rattle.control_points.specs.Fits.{PointsFit, EdgesFit, CallsReturn, ChecksFit, AssertsFit, EdgesListed};
@@ -9,6 +9,7 @@ use crate::edge::Edge;
 use crate::point::Point;
 use pas_program::Program;
 use sqlite_items::Items;
+use std::ops::Range;
 
 /// A program with its points, edges and checks.
 #[derive(Debug, Drop)]
@@ -37,8 +38,10 @@ pub struct Flow {
     pub ghost edges_listed: { EdgesListed points edges outgoing incoming },
 }
 
-/// Each takes constant time.
+/// Each takes constant time, but for `checks_at`.
 impl Flow {
+    ghost use Rattle.control_points.specs.Judgements.{first_check};
+
     pub fn program(&self) -> &Program
         ensures { result.now ≡ self.now.program }
     {
@@ -61,6 +64,24 @@ impl Flow {
         ensures { result.now ≡ self.now.checks }
     {
         self.checks.as_slice()
+    }
+
+    /// The numbers of the checks of the point. The time is logarithmic in the number of all checks.
+    pub fn checks_at(&self, point: u32) -> Range<usize>
+        ensures start { result.start ≡ first_check self.now.checks point }
+        ensures end { result.end ≡ first_check self.now.checks (suc point) }
+    {
+        let start = self.checks_below(u64::from(point));
+        let end = self.checks_below(u64::from(point) + 1);
+        start..end
+    }
+
+    /// How many checks are of lower points.
+    fn checks_below(&self, point: u64) -> usize
+        ensures { result ≡ first_check self.now.checks point }
+    {
+        self.checks()
+            .partition_point(|c| u64::from(c.point) < point)
     }
 
     /// The numbers of the assertions that belong to the point, in the order of their statement's list.

@@ -85,8 +85,8 @@ pub fn values_lie_in_their_hosts()
     ensures { (c : Chart) (s : State) (r : ℕ) (e : Expr) (z : ℤ) → IsWellFormed c → IsValid c s → routine_at c.points (point_of s.stack) ≡ Some r → each_expr (scope_rule c.tables r) e ≡ true → (hosted c.tables e).fits ≡ true → value (view c s) e ≡ Ok z → in_host (hosted c.tables e).boolean z ≡ true }
 {}
 
-/// In a valid state an error of a step is one that the action of an edge may be that leaves the point, or one for which no check stands: an
-/// undefined slot, or at the end of a turn of a `for` an undefined control variable or bound.
+/// In a valid state an error of a step is that of a judgement of the point (so `each_judgement_has_a_check` tells its check), or one for
+/// which no check stands: an undefined slot, or at the end of a turn of a `for` an undefined control variable or bound.
 pub fn each_error_is_foreseen()
     ensures { (c : Chart) (s : State) (f : Fault) → IsWellFormed c → IsValid c s → next c s ≡ fails f → IsForeseen c s f }
 {}

@@ -12,12 +12,15 @@ mod actions;
 mod assembly;
 mod calls;
 mod check;
+mod constants;
 mod copy;
 mod edge;
 mod fault;
 mod flow;
 mod graph;
+mod hosts;
 mod item;
+mod judgements;
 mod judging;
 mod labels;
 mod laws;
@@ -25,6 +28,7 @@ mod numbering;
 mod paths;
 mod point;
 mod scene;
+mod widening;
 mod wiring;
 
 pub use assembly::build;
@@ -32,7 +36,12 @@ pub use check::Check;
 pub use edge::{Act, Edge};
 pub use fault::Fault;
 pub use flow::Flow;
+pub use hosts::is_boolean;
 pub use item::Item;
+pub use judgements::{
+    checks_are_those_of_points, each_check_is_judged, each_check_judges_a_part,
+    each_judgement_has_a_check,
+};
 pub use laws::{
     a_run_halts_at_its_exit_alone, each_activation_was_made, each_error_is_foreseen,
     each_step_follows_an_edge, earlier_is_on_the_way, flows_are_well_formed, next_is_valid,
@@ -41,3 +50,4 @@ pub use laws::{
 };
 pub use paths::{flows_are_those_of_paths, paths_say_the_same_as_numbers};
 pub use point::{Point, PointKind};
+pub use widening::thresholds;

@@ -2,4 +2,4 @@ use Rattle.control_points.proofs.PathsWhole.{flow_is_of_paths}
 use Rattle.control_points.proofs.paths.flows_are_those_of_paths.Goals as goal
 
 pub returns : goal.returns
-returns _ f stand = flow_is_of_paths f stand
+returns _ f = flow_is_of_paths f
