@@ -8,9 +8,6 @@ use Rattle.pas_parser.specs.Program.{program}
 use Rattle.pas_parser.specs.declared.fault.ParseFault.{ParseFault}
 use Rattle.pas_parser.specs.declared.fault.ParseFault.TheVariants.{NoRule, TooDeep, Memory as NoMemory}
 use Rattle.pas_tree.specs.declared.block.Tree.{Tree}
-use Rattle.pas_program.specs.Checked.{tables}
-use Rattle.pas_program.specs.Labels.{AssertsStand, ConstantsDiffer, ControlsAreLocal, LabelsStand}
-use Rattle.pas_program.specs.declared.program.Program.{Program}
 use Rattle.pas_check.specs.Accepted.{IsProgramOf}
 use Rattle.pas_check.specs.Blocks.{IsSound}
 use Rattle.pas_check.specs.Fault.{IsWithin}
@@ -31,21 +28,13 @@ pub record IsTreeOf (text : List ℕ) (tree : Tree) : Type 0 where
   pub is_read : program tokens ≡ Ok tree
   pub is_program : IsProgram tokens tree
 
--- What is known of a program that the checker answers, beside what its type says: that its numbers, types and scopes fit.
-pub record IsChecked (checked : Program) : Type 0 where
-  pub controls : ControlsAreLocal (tables checked) checked.routines
-  pub labels : LabelsStand checked.routines
-  pub constants : ConstantsDiffer checked.routines
-  pub assertions : AssertsStand checked.routines checked.asserts
-
 -- The flow of a source: the source has a tree, which breaks no rule; the flow is of the program that is built of this tree; and its
--- points, edges and checks are those of the paths in the program's text.
+-- points with their assertions, edges and checks are those of the paths in the program's text.
 pub record IsFlowOf (text : List ℕ) (flow : Flow) : Type 0 where
   pub tree : Tree
   pub is_tree : IsTreeOf text tree
   pub is_program : IsProgramOf text tree flow.program
-  pub is_drawn : Sites.IsFlowOf flow.program flow.points flow.edges flow.checks
-  pub is_checked : IsChecked flow.program
+  pub is_drawn : Sites.IsFlowOf flow.program flow.points flow.asserts flow.edges flow.checks
 
 -- ---- faults
 

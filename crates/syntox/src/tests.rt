@@ -5,6 +5,7 @@ mod checking;
 mod graph;
 mod large;
 mod running;
+mod steps;
 mod words;
 
 use crate::status::Status;

@@ -1,7 +1,6 @@
 use Rattle.std.proofs.Common.{sym, subst}
 use Rattle.pas_check.specs.Accepted.{IsProgramOf}
 use Rattle.syntox.proofs.Faults.{tree_of}
-use Rattle.syntox.specs.Source.{IsChecked}
 use Rattle.syntox.proofs.source.flow_of.Goals as goal
 
 pub returns-in-Err-clause-fault : goal.returns-in-Err-clause-fault
@@ -21,16 +20,9 @@ returns-in-Err-check-clause-place c = c.checked.ensures.place c.args.text.now c.
 
 pub returns-in-Ok-build-clause-flow : goal.returns-in-Ok-build-clause-flow
 returns-in-Ok-build-clause-flow c =
-    let checked : IsChecked c.in-Ok-build.flow.program = subst IsChecked (sym c.in-Ok-build.ensures) (record {
-      controls = c.in-Ok-check.ensures.controls;
-      labels = c.in-Ok-check.ensures.labels;
-      constants = c.in-Ok-check.ensures.constants;
-      assertions = c.in-Ok-check.ensures.assertions;
-    }) in
     record {
       tree = c.in-Ok-parse.tree;
       is_tree = tree_of c.args.text.now c.deref.result.now c.in-Ok.tokens.items c.in-Ok-parse.tree c.deref.ensures.value c.in-Ok.ensures.tokens c.in-Ok-parse.ensures.value c.in-Ok-parse.ensures.grammar;
       is_program = subst (IsProgramOf c.args.text.now c.in-Ok-parse.tree) (sym c.in-Ok-build.ensures) c.in-Ok-check.ensures.program;
-      is_drawn = c.flows_are_those_of_paths.ensures c.in-Ok-build.flow checked.labels;
-      is_checked = checked;
+      is_drawn = c.flows_are_those_of_paths.ensures c.in-Ok-build.flow;
     }
