@@ -11,6 +11,7 @@ pub mod FirstFault
 pub mod Formals
 pub mod Forms
 pub mod Headings
+pub mod Hiding
 pub mod Labels
 pub mod Names
 pub mod Outcome

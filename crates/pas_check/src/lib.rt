@@ -17,6 +17,7 @@ mod expr;
 mod fault;
 mod frame;
 mod heading;
+mod hiding;
 mod label;
 mod laws;
 mod meaning;

@@ -2,6 +2,7 @@
 ghost use Rattle.std.specs.Prelude.{◌≡◌, ◌≤◌};
 ghost use Rattle.report.specs.Wording as spec;
 
+use control_points::PointKind;
 use pas_lexer::LexFault;
 use pas_parser::ParseFault;
 
@@ -59,5 +60,19 @@ pub fn check_message(code: u8) -> &'static str
         17 => "procedures nested too deep",
         18 => "label above 9999",
         _ => unreachable!(),
+    }
+}
+
+/// Where a point lies, as a report says it.
+pub(crate) fn point_word(kind: PointKind) -> &'static str {
+    match kind {
+        PointKind::Entry => "entry",
+        PointKind::Before => "before",
+        PointKind::AfterCall => "after call",
+        PointKind::AfterRead => "after read",
+        PointKind::AfterWrite => "after write",
+        PointKind::Until => "until",
+        PointKind::Step => "step",
+        PointKind::Exit => "exit",
     }
 }

@@ -21,6 +21,6 @@ returns-in_err-end_allowed c = record {
 pub returns : goal.returns
 returns c = record {
   value = λ s p text around own lacking.
-      block_ends s p c.args.block.now text (stage c.args.self.now) c.as_slice.result.now c.as_slice.ensures (sight c.statement_part.new.self.seen) c.in_ok-body.ensures.value c.args.function own c.args.outer c.in_ok-body.body c.statement_part.new.self.made.built c.statement_of.result
+      block_ends s p c.args.block.now text (stage c.args.self.now) c.as_slice.result.now c.as_slice.ensures (sight c.statement_part.new.self.seen) c.in_ok-body.ensures.value c.args.function own c.args.outer c.in_ok-body.body c.statement_part.new.self.made.built c.in_ok-names.names (c.in_ok-names.ensures.names) c.statement_of.result
       around (c.in_ok-end_allowed.ensures.value text lacking) c.in_ok-body.ensures.form c.statement_of.ensures (stage c.leave.new.self) c.leave.result c.leave.ensures.number c.leave.ensures.left c.leave.ensures.built c.leave.ensures.memory;
 }

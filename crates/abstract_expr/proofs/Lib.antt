@@ -1,0 +1,2 @@
+pub mod AccessTypes
+pub mod Parts

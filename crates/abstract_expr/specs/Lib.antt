@@ -1,0 +1,5 @@
+pub mod Expressions
+pub mod Scopes
+pub mod Standing
+pub mod Tallies
+pub mod Verdicts

@@ -1,0 +1,4 @@
+pub mod Calls
+pub mod Unfolding
+pub mod Arcs
+pub mod Silence
