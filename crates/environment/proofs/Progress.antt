@@ -3,7 +3,7 @@ use Rattle.std.proofs.Common.{◌≡◌, ◌≢◌, ℕ, zero, suc, ◌+◌, ◌
 use Rattle.std.specs.Bool.{OnTrue, OnFalse}
 use Rattle.std.proofs.lemmas.List.{take_more_set, drop-set-lt, drop_more, drop-drop, drop_all, take_all, append-nil, get_or-drop, get_or-set_same, set-get_or}
 use Rattle.std.proofs.lemmas.List.Folds.{list_any-append}
-use Rattle.std.proofs.lemmas.Bool.{and_parts, or_left, or_right, false≢true}
+use Rattle.std.proofs.lemmas.Bool.{and_parts, or_parts, or_left, or_right, false≢true}
 use Rattle.interval.specs.declared.val.Val.{Val}
 use Rattle.interval.specs.Values.{allows_nothing, val_below}
 use Rattle.environment.specs.Pointwise.{each, each_within, each_below}
@@ -64,6 +64,11 @@ each_below_drop [] (w ∷ ws) (suc i) h = absurd (false≢true h)
 each_below_drop (v ∷ vs) [] (suc i) h = absurd (false≢true h)
 each_below_drop (v ∷ vs) (w ∷ ws) (suc i) h = each_below_drop vs ws i (and_parts _ _ h).1
 
+full_drop : (vs : List Val) (i : ℕ) → IsFalse (has_empty_cell vs) → IsFalse (has_empty_cell (drop i vs))
+full_drop vs zero h = h
+full_drop [] (suc i) h = refl
+full_drop (v ∷ vs) (suc i) h = full_drop vs i (or_parts (allows_nothing v) (has_empty_cell vs) h).1
+
 pub below_at : (vs us ws : List Val) (i : ℕ) (v w d e : Val) → drop i vs ≡ drop i us → IsTrue (each_below us ws)
     → v ≡ get_or vs i d → w ≡ get_or ws i e → i < length vs → i < length ws → IsTrue (val_below v w)
 below_at vs us ws i v w d e untouched h v_is w_is lt lt' =
@@ -75,6 +80,14 @@ below_at vs us ws i v w d e untouched h v_is w_is lt lt' =
 pub untouched_more : (vs us : List Val) (i : ℕ) (y : Val) → drop i vs ≡ drop i us → drop (i + 1) (set vs i y) ≡ drop (i + 1) us
 untouched_more vs us i y untouched =
     drop-set-lt (i + 1) vs i y (omega arith) ∙ sym (drop-drop 1 i vs) ∙ ap (drop 1) untouched ∙ drop-drop 1 i us
+
+-- they allow something where all cells did so
+pub full_at : (vs us : List Val) (i : ℕ) (v d : Val) → drop i vs ≡ drop i us → IsFalse (has_empty_cell us) → v ≡ get_or vs i d → i < length vs
+    → IsFalse (allows_nothing v)
+full_at vs us i v d untouched full v_is lt =
+    let P : List Val → Type 0 = λ xs. IsFalse (has_empty_cell xs) in
+    let here : P (v ∷ drop (i + 1) vs) = subst P (sym untouched ∙ read_at vs i v d v_is lt) (full_drop us i full) in
+    (or_parts (allows_nothing v) (has_empty_cell (drop (i + 1) vs)) here).0
 
 -- ---- whether a cell changed
 
@@ -104,6 +117,10 @@ flag_kept flag before vs us i y d flag_is y_is h =
     let P : Bool → Type 0 = λ b. IsFlag b (set vs i y) us in
     let Q : List Val → Type 0 = λ xs. IsFlag before xs us in
     subst P (sym flag_is) (subst Q (sym same) h)
+
+-- a cell that is not written
+pub not_written : (vs : List Val) (i : ℕ) (v d : Val) → v ≡ get_or vs i d → vs ≡ set vs i v
+not_written vs i v d v_is = sym (ap (set vs i) v_is ∙ set-get_or vs i d)
 
 -- ---- a cell that allows nothing
 

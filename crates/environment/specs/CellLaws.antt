@@ -1,13 +1,14 @@
 -- The laws of values cell by cell, from those of one value.
 use Rattle.std.specs.Prelude.{◌≡◌, ◌≢◌, ℕ, suc, ◌*◌, ◌<◌, ◌≤◌, Bool, true, false, not, ◌&&◌, List, [], ◌∷◌, length, IsTrue, IsFalse, Option, Some, None, ℤ}
 use Rattle.std.proofs.Common.{arith, refl, inl, inr, ap, ◌∙◌}
+use Rattle.std.proofs.Math.Nat.{mul-suc}
 use Rattle.std.proofs.lemmas.Bool.{and_parts, and_from, or_parts, or_from, cases_Bool, cases_lt, false≢true}
 use Rattle.std.proofs.lemmas.Int.{ints}
 use Rattle.interval.specs.declared.itv.Itv.{Itv}
 use Rattle.interval.specs.declared.val.Val.{Val}
 use Rattle.interval.specs.Intervals.{is_empty, IsIn}
-use Rattle.interval.specs.Values.{Allows, allows_nothing, val_below}
-use Rattle.interval.specs.ValueLaws.{val_laws}
+use Rattle.interval.specs.Values.{Allows, allows_nothing, val_below, val_meet, val_widen, val_narrow}
+use Rattle.interval.specs.ValueLaws.{val_laws, val_meet_of_below, val_widen_of_below}
 use Rattle.environment.specs.Pointwise.{each, each_within, each_below, total}
 use Rattle.environment.specs.Environments.{MayHold, CoversCells, has_empty_cell}
 
@@ -99,6 +100,15 @@ pub below_itself : (vs : List Val) → IsTrue (each_below vs vs)
 below_itself [] = refl
 below_itself (v ∷ vs) = and_from _ _ (val_laws.below_itself v) (below_itself vs)
 
+pub below_both : (vs ws : List Val) → IsTrue (each_below vs ws) → IsTrue (each_below ws vs) → vs ≡ ws
+below_both [] [] a b = refl
+below_both [] (w ∷ ws) a b = absurd (false≢true a)
+below_both (v ∷ vs) [] a b = absurd (false≢true a)
+below_both (v ∷ vs) (w ∷ ws) a b =
+    let up = and_parts _ _ a in
+    let down = and_parts _ _ b in
+    ap (λ u. u ∷ vs) (val_laws.below_both v w refl up.0 down.0) ∙ ap (λ us. w ∷ us) (below_both vs ws up.1 down.1)
+
 pub length_below : (vs ws : List Val) → IsTrue (each_below vs ws) → length vs ≡ length ws
 length_below [] [] h = refl
 length_below [] (w ∷ ws) h = absurd (false≢true h)
@@ -161,6 +171,27 @@ module _ (f : Val → Val → Val) where
   covers_each law (more v w rest) (es ∷ store) a b =
       (may_hold_both (f v w) v w es (law v w) a.0 b.0, covers_each law rest store a.1 b.1)
 
+-- cells that lie below the others stay in the meet
+pub meet_of_below : (vs ws : List Val) → IsTrue (each_below vs ws) → each val_meet vs ws ≡ vs
+meet_of_below [] [] h = refl
+meet_of_below [] (w ∷ ws) h = absurd (false≢true h)
+meet_of_below (v ∷ vs) [] h = absurd (false≢true h)
+meet_of_below (v ∷ vs) (w ∷ ws) h =
+    let below = and_parts _ _ h in
+    ap (λ u. u ∷ each val_meet vs ws) (val_meet_of_below v w below.0) ∙ ap (λ us. v ∷ us) (meet_of_below vs ws below.1)
+
+pub widen_of_below : (steps : List ℤ) (vs ws ls : List Val) → IsTrue (each_below ws vs) → IsTrue (each_below vs ls) → each_within (val_widen steps) vs ws ls ≡ vs
+widen_of_below steps [] [] [] h k = refl
+widen_of_below steps [] [] (l ∷ ls) h k = absurd (false≢true k)
+widen_of_below steps [] (w ∷ ws) ls h k = absurd (false≢true h)
+widen_of_below steps (v ∷ vs) [] ls h k = absurd (false≢true h)
+widen_of_below steps (v ∷ vs) (w ∷ ws) [] h k = absurd (false≢true k)
+widen_of_below steps (v ∷ vs) (w ∷ ws) (l ∷ ls) h k =
+    let below = and_parts _ _ h in
+    let within = and_parts _ _ k in
+    ap (λ u. u ∷ each_within (val_widen steps) vs ws ls) (val_widen_of_below steps v w l below.0) ∙
+    ap (λ us. v ∷ us) (widen_of_below steps vs ws ls below.1 within.1)
+
 -- ---- functions of two values and a limit
 
 module _ (P : Val → Val → Val → Type 0) (f : Val → Val → Val → Val) where
@@ -196,12 +227,24 @@ module _ (P : Val → Val → Val → Type 0) (f : Val → Val → Val → Val) 
   covers_within law (more v w l p rest) (es ∷ store) a b =
       (may_hold_both (f v w l) v w es (law v w l) a.0 b.0, covers_within law rest store a.1 b.1)
 
+pub narrow_again : {vs ws ls : List Val} → Along Anyhow vs ws ls
+    → each_within val_narrow (each_within val_narrow vs ws ls) ws ls ≡ each_within val_narrow vs ws ls
+narrow_again none = refl
+narrow_again (more v w l {vs = vs} {ws = ws} {ls = ls} p rest) =
+    ap (λ u. u ∷ each_within val_narrow (each_within val_narrow vs ws ls) ws ls) (val_laws.narrow_again v w l (record { left = refl; right = refl })) ∙
+    ap (λ us. val_narrow v w l ∷ us) (narrow_again rest)
+
+pub meet_below_narrow : {vs ws ls : List Val} → Along Anyhow vs ws ls → IsTrue (each_below (each val_meet vs ws) (each_within val_narrow vs ws ls))
+meet_below_narrow none = refl
+meet_below_narrow (more v w l p rest) =
+    and_from _ _ (val_laws.meet_below_narrow v w l (record { left = refl; right = refl })) (meet_below_narrow rest)
+
 -- ---- ranks
 
-pub total_bound : (rank : Val → Val → ℕ) → ((l v : Val) → rank l v ≤ 4) → (ls vs : List Val) → total rank ls vs ≤ 4 * length ls
-total_bound rank bound [] vs = omega arith
-total_bound rank bound (l ∷ ls) [] = omega arith
-total_bound rank bound (l ∷ ls) (v ∷ vs) = omega (arith, bound l v, total_bound rank bound ls vs)
+pub total_bound : (rank : Val → Val → ℕ) (most : ℕ) → ((l v : Val) → rank l v ≤ most) → (ls vs : List Val) → total rank ls vs ≤ most * length ls
+total_bound rank most bound [] vs = omega arith
+total_bound rank most bound (l ∷ ls) [] = omega arith
+total_bound rank most bound (l ∷ ls) (v ∷ vs) = rw mul-suc (omega (arith, bound l v, total_bound rank most bound ls vs))
 
 module _ (P : Val → Val → Val → Type 0) (f : Val → Val → Val → Val) (rank : Val → Val → ℕ)
     (law : (v w l : Val) → P v w l → f v w l ≢ v → rank l (f v w l) < rank l v) where

@@ -1,11 +1,11 @@
 -- Environments: what each cell of a control point may hold, or that the point is not reached (Bourdoncle, PLDI 1993).
 -- They are a lattice cell by cell, in which an environment with a cell that allows nothing is not reached.
-use Rattle.std.specs.Prelude.{ℕ, ◌+◌, ◌*◌, Bool, true, false, not, List, [], ◌∷◌, length, replicate, slice_index_or, slice_set, Option, ℤ, if◌then◌else◌, All, ⊤}
+use Rattle.std.specs.Prelude.{ℕ, ◌+◌, ◌*◌, Bool, true, false, not, List, [], ◌∷◌, length, replicate, slice_index_or, slice_set, Option, ℤ, if◌then◌else◌, All, ⊤, IsFalse}
 use Rattle.std.specs.List.{list_any}
 use Rattle.lattice.specs.Lattice.{Ops}
 use Rattle.interval.specs.declared.val.Val.{Val}
 use Rattle.interval.specs.Intervals.{empty}
-use Rattle.interval.specs.Values.{Allows, allows_nothing, nothing, val_join, val_meet, val_widen, val_narrow, val_ops}
+use Rattle.interval.specs.Values.{Allows, allows_nothing, nothing, val_join, val_meet, val_widen, val_narrow, val_growth, val_shrinkage}
 use Rattle.environment.specs.Pointwise.{each, each_within, each_below, total}
 
 -- not reached, with so many cells, or reached with these values in the cells
@@ -44,6 +44,10 @@ has_empty_cell vs = list_any allows_nothing vs
 -- with these values in the cells, and so unreachable where one of them allows nothing
 abbrev pub settled : List Val → Environment
 settled vs = if has_empty_cell vs then Unreachable (length vs) else Reachable vs
+
+-- it is one that can be: each cell allows something
+abbrev pub IsProper : Environment → Type 0
+IsProper env = IsFalse (has_empty_cell (values env))
 
 -- ---- changes of one cell
 
@@ -99,10 +103,10 @@ abbrev pub limits : Environment → List Val
 limits (Unreachable n) = replicate n nothing
 limits (Reachable ls) = ls
 
-abbrev pub env_widen : Environment → Environment → Environment → Environment
-env_widen (Unreachable n) y limit = y
-env_widen (Reachable vs) (Unreachable n) limit = Reachable vs
-env_widen (Reachable vs) (Reachable ws) limit = Reachable (each_within val_widen vs ws (limits limit))
+abbrev pub env_widen : List ℤ → Environment → Environment → Environment → Environment
+env_widen steps (Unreachable n) y limit = y
+env_widen steps (Reachable vs) (Unreachable n) limit = Reachable vs
+env_widen steps (Reachable vs) (Reachable ws) limit = Reachable (each_within (val_widen steps) vs ws (limits limit))
 
 abbrev pub env_narrow : Environment → Environment → Environment → Environment
 env_narrow (Unreachable n) y limit = Unreachable n
@@ -112,14 +116,14 @@ env_narrow (Reachable vs) (Reachable ws) limit = settled (each_within val_narrow
 -- ---- how often an environment can still change
 
 -- it can be reached, and then each cell can grow
-abbrev pub growth : Environment → Environment → ℕ
-growth limit (Unreachable n) = 1 + 4 * n
-growth limit (Reachable vs) = total val_ops.widening_rank (limits limit) vs
+abbrev pub growth : List ℤ → Environment → Environment → ℕ
+growth steps limit (Unreachable n) = 1 + (4 + 2 * length steps) * n
+growth steps limit (Reachable vs) = total (val_growth steps) (limits limit) vs
 
 -- each cell can shrink, and then it can become unreachable
 abbrev pub shrinkage : Environment → Environment → ℕ
 shrinkage limit (Unreachable n) = 0
-shrinkage limit (Reachable vs) = 1 + total val_ops.narrowing_rank (limits limit) vs
+shrinkage limit (Reachable vs) = 1 + total val_shrinkage (limits limit) vs
 
 abbrev pub env_ops : Ops Environment
 env_ops = record {
@@ -129,9 +133,9 @@ env_ops = record {
   below = env_below;
   join = env_join;
   meet = env_meet;
-  widen = env_widen;
+  widen = λ x y limit steps. env_widen steps x y limit;
   narrow = env_narrow;
-  widening_rank = growth;
+  widening_rank = λ limit steps x. growth steps limit x;
   narrowing_rank = shrinkage;
-  height = λ limit. 1 + 4 * cell_count limit;
+  height = λ limit steps. 1 + (4 + 2 * length steps) * cell_count limit;
 }

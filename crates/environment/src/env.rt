@@ -1,7 +1,7 @@
 //! An environment with its room, and the calls on single cells.
-ghost use Rattle.std.specs.Prelude.{◌≡◌, ◌<◌, ◌≤◌, IfOk, IsTrue, IsFalse, slice_index_or};
-ghost use Rattle.interval.specs.Values.{allows_nothing, nothing};
-ghost use Rattle.environment.specs.Environments.{cell_count, is_reachable, values, value_at, has_empty_cell, undefined, started, after_set, after_weak_set, limits};
+ghost use Rattle.std.specs.Prelude.{◌≡◌, ◌<◌, ◌≤◌, IfOk, IsTrue, IsFalse};
+ghost use Rattle.interval.specs.Values.{allows_nothing};
+ghost use Rattle.environment.specs.Environments.{cell_count, is_reachable, values, value_at, has_empty_cell, undefined, started, after_set, after_weak_set};
 ghost use Rattle.environment.specs.Environments.Environment.{Unreachable};
 ghost use Rattle.environment.specs.Kept.{room_of};
 
@@ -140,21 +140,6 @@ impl Env {
         ensures room { room_of self.new ≡ room_of self.old }
     {
         self.set(cell, undefined());
-    }
-
-    /// The limit of a cell, where this environment is one. An unreachable limit has no bound.
-    pub(crate) fn limit_at(&self, cell: usize) -> Val
-        requires { cell < cell_count self.now.env }
-        ensures { result ≡ slice_index_or (limits self.now.env) cell nothing }
-    {
-        if self.reachable {
-            self.cells[cell]
-        } else {
-            Val {
-                undef: false,
-                itv: Itv::EMPTY,
-            }
-        }
     }
 }
 

@@ -121,7 +121,7 @@ fn joins_and_meets(rt: HostRuntime) -> Result<(), Fail> {
 }
 
 #[test]
-fn widens_to_the_limit(rt: HostRuntime) -> Result<(), Fail> {
+fn widens_by_steps(rt: HostRuntime) -> Result<(), Fail> {
     let limit = Some((maybe(-10, 10), maybe(0, 1)));
     let start = Some((numbers(1, 1), numbers(0, 0)));
     let cases = [
@@ -140,12 +140,19 @@ fn widens_to_the_limit(rt: HostRuntime) -> Result<(), Fail> {
             result: start,
             answer: false,
         },
-        // a bound that grows becomes the limit's; the other one stays
+        // a bound that grows becomes the next step, and where none is left the limit's; the other one stays
         Case {
             x: start,
             y: Some((numbers(1, 2), numbers(0, 0))),
             limit,
-            result: Some((numbers(1, 10), numbers(0, 0))),
+            result: Some((numbers(1, 5), numbers(0, 0))),
+            answer: true,
+        },
+        Case {
+            x: Some((numbers(1, 5), numbers(0, 0))),
+            y: Some((numbers(0, 6), numbers(0, 1))),
+            limit,
+            result: Some((numbers(-2, 10), numbers(0, 1))),
             answer: true,
         },
         // the second cell alone, which may be undefined now
@@ -173,7 +180,7 @@ fn widens_to_the_limit(rt: HostRuntime) -> Result<(), Fail> {
         assert_eq!(rt; y.cells(), limit.cells());
         assert!(rt; x.leq(&limit));
         assert!(rt; y.leq(&limit));
-        assert_eq!(rt; x.widen_from(&y, &limit), case.answer);
+        assert_eq!(rt; x.widen_from(&y, &limit, &[-2, 5]), case.answer);
         assert!(rt; holds(&x, case.result));
     }
     Ok(())
@@ -284,6 +291,6 @@ fn takes_other_shapes_within_its_room(rt: HostRuntime) -> Result<(), Fail> {
     small.start();
     env.copy_from(&small);
     assert!(rt; holds(&env, Some((maybe(1, 0), maybe(1, 0)))) && env.cells() == 2);
-    assert!(rt; size_of::<Env>() <= 64 && size_of::<Val>() <= 16);
+    assert!(rt; size_of::<Env>() <= 64 && size_of::<Val>() <= 12);
     Ok(())
 }

@@ -1,12 +1,25 @@
 -- Elements lie where their layout says, and the lengths of their components add up.
-use Rattle.std.proofs.Common.{◌≡◌, ℕ, zero, suc, ◌+◌, ◌-◌, ◌*◌, List, [], ◌∷◌, ◌++◌, length, drop, refl, sym, ap, ◌∙◌, arith, append_assoc, length-append, add-zero, add-one}
+use Rattle.std.proofs.Common.{◌≡◌, ℕ, zero, suc, ◌+◌, ◌-◌, ◌*◌, ◌<◌, List, [], ◌∷◌, ◌++◌, length, drop, refl, sym, ap, ◌∙◌, arith, append_assoc, length-append, add-zero, add-one}
 use Rattle.std.specs.Prelude.{slice_index}
 use Rattle.std.proofs.lemmas.List.{append-nil, drop-drop, drop_at, get_or-drop}
 use Rattle.weak_order.specs.Order.{Elements, Layout, nodes_of, ends_of}
 use Rattle.weak_order.specs.Order.Elements.{none, node, component}
 use Rattle.fixpoint.specs.Ascent.{ascent_bound}
-use Rattle.fixpoint.specs.Progress.{end_at, LiesAt}
+use Rattle.fixpoint.specs.Passing.{node_at, end_at}
 use Rattle.fixpoint.specs.System.{IsLayoutOf}
+
+-- the elements lie at the places from p to q
+abbrev pub LiesAt : Layout → Elements → ℕ → ℕ → Type 0
+LiesAt layout none p q = p ≡ q
+LiesAt layout (node k rest) p q = (p < q) × (node_at layout p ≡ k) × (end_at layout p ≡ p) × LiesAt layout rest (p + 1) q
+LiesAt layout (component head body rest) p q = (p < q) × (node_at layout p ≡ head) × (p < end_at layout p)
+    × LiesAt layout body (p + 1) (end_at layout p) × LiesAt layout rest (end_at layout p) q
+
+-- no elements lie where there is no place
+pub nothing_lies : (layout : Layout) (xs : Elements) (p : ℕ) → LiesAt layout xs p p → xs ≡ none
+nothing_lies layout none p lies = refl
+nothing_lies layout (node k rest) p lies = absurd (omega (arith, lies.0))
+nothing_lies layout (component head body rest) p lies = absurd (omega (arith, lies.0))
 
 -- how many nodes there are, and how many each component has, in all
 abbrev pub size : Elements → ℕ

@@ -1,30 +1,42 @@
--- The steps of a pass: one more place, and how much the heads can still shrink.
-use Rattle.std.proofs.Common.{◌≡◌, ℕ, zero, suc, ◌+◌, ◌<◌, ◌≤◌, List, refl, sym, subst, ◌∙◌, set, inl, inr, arith, true}
-use Rattle.std.specs.Prelude.{◌≢◌, if◌then◌else◌}
+-- The step of a pass at a place: what it writes, which nodes it leaves up to date, and how much the heads can still shrink.
+use Rattle.std.proofs.Common.{◌≡◌, ℕ, zero, suc, ◌+◌, ◌<◌, ◌≤◌, Bool, true, false, List, refl, sym, ap, subst, ◌∙◌, set, inl, inr, arith}
+use Rattle.std.specs.Prelude.{◌≢◌, if◌then◌else◌, IsFalse}
 use Rattle.std.proofs.lemmas.Bool.{cases_Bool, cases_eq, cases_lt, le-ltb, lt-ltb}
+use Rattle.std.proofs.lemmas.List.{set-get_or}
 use Rattle.lattice.specs.Lattice.{Ops, IsLattice, AreAlike}
-use Rattle.weak_order.specs.Order.{Layout}
-use Rattle.fixpoint.specs.Passing.{begins_component, stepped, ChangesHead, KeepsHead, slack}
-use Rattle.fixpoint.specs.Progress.{node_at, end_at, IsGiven}
-use Rattle.fixpoint.specs.System.{System, element, IsTable, IsSystem}
-use Rattle.fixpoint.proofs.Handling.{in_range, others}
+use Rattle.weak_order.specs.Order.{Layout, IsWeakOrder}
+use Rattle.fixpoint.specs.Marks.{Visits, has_mark}
+use Rattle.fixpoint.specs.Passing.{node_at, end_at, begins_component, stepped, ChangesHead, IsUpToDate, KeepsHead, slack}
+use Rattle.fixpoint.specs.System.{System, Reads, element, IsTable, IsSystem}
+use Rattle.fixpoint.proofs.Settling.{apart, node_below, reads_kept, unmarked_before}
 use Rattle.fixpoint.proofs.Tables.{element-set_same, element-set_other, table_written}
 
 module _ {V P : Type 0} {has : V → P → Type 0} (o : Ops V) (laws : IsLattice o has) (s : System V) (system : IsSystem o s)
-    (layout : Layout) (limits : List V) (room : ℕ) (given : IsGiven o s layout limits room) where
-  -- what a step writes
-  abbrev step_value : List V → ℕ → V
+    (layout : Layout) (limits : List V) (order : IsWeakOrder (Reads s) s.nodes layout) (limits_fit : IsTable o s limits) where
+  below_at : (p : ℕ) → p < s.nodes → node_at layout p < s.nodes
+  below_at p below = node_below o laws s system layout limits order p below
+
+  -- what a step makes of an element
+  abbrev pub shrunk : Bool → V → V → V → V
+  shrunk head x y l = if head then o.narrow x y l else o.meet x y
+
+  abbrev pub step_value : List V → ℕ → V
   step_value t p =
-      let k = node_at layout p in
-      if begins_component layout p then o.narrow (element o t k) (s.value k t) (element o limits k) else o.meet (element o t k) (s.value k t)
+      shrunk (begins_component layout p) (element o t (node_at layout p)) (s.value (node_at layout p) t) (element o limits (node_at layout p))
 
   pub stepped_is : (t : List V) (p : ℕ) → stepped o s layout limits p t ≡ set t (node_at layout p) (step_value t p)
   stepped_is t p = elim (cases_Bool (begins_component layout p)) [ inl a ↦ rw a refl | inr a ↦ rw a refl ]
 
+  pub stepped_by : (t u : List V) (p k : ℕ) (y : V) (head : Bool) → k ≡ node_at layout p → y ≡ s.value k t → head ≡ begins_component layout p
+      → u ≡ set t k (shrunk head (element o t k) y (element o limits k)) → u ≡ stepped o s layout limits p t
+  stepped_by t u p k y head at is begins made =
+      let written : set t k (shrunk head (element o t k) y (element o limits k)) ≡ set t (node_at layout p) (step_value t p) = rw (is, begins, at) refl in
+      made ∙ written ∙ sym (stepped_is t p)
+
   pub may_narrow : (t : List V) (k : ℕ) → k < s.nodes → IsTable o s t → AreAlike o (element o t k) (s.value k t) (element o limits k)
   may_narrow t k below fits = record {
-    left = fits.shapes k below ∙ sym (given.limits_fit.shapes k below);
-    right = system.shapes k t below fits ∙ sym (given.limits_fit.shapes k below);
+    left = fits.shapes k below ∙ sym (limits_fit.shapes k below);
+    right = system.shapes k t below fits ∙ sym (limits_fit.shapes k below);
   }
 
   pub may_meet : (t : List V) (k : ℕ) → k < s.nodes → IsTable o s t → o.shape (element o t k) ≡ o.shape (s.value k t)
@@ -33,22 +45,88 @@ module _ {V P : Type 0} {has : V → P → Type 0} (o : Ops V) (laws : IsLattice
   step_shape : (t : List V) (p : ℕ) → p < s.nodes → IsTable o s t → o.shape (step_value t p) ≡ s.shape (node_at layout p)
   step_shape t p below fits =
       let k = node_at layout p in
-      let at = in_range o laws s system layout limits room given p below in
+      let at = below_at p below in
       elim (cases_Bool (begins_component layout p)) [
-        | inl a ↦ rw a (laws.narrow_shape (element o t k) (s.value k t) (element o limits k) (may_narrow t k at fits) ∙ given.limits_fit.shapes k at)
+        | inl a ↦ rw a (laws.narrow_shape (element o t k) (s.value k t) (element o limits k) (may_narrow t k at fits) ∙ limits_fit.shapes k at)
         | inr a ↦ rw a (laws.meet_shape (element o t k) (s.value k t) (may_meet t k at fits) ∙ fits.shapes k at)
       ]
 
   pub stepped_fits : (t : List V) (p : ℕ) → p < s.nodes → IsTable o s t → IsTable o s (stepped o s layout limits p t)
   stepped_fits t p below fits =
-      rw (stepped_is t p) (table_written o s t (node_at layout p) (step_value t p) fits (in_range o laws s system layout limits room given p below)
-      (step_shape t p below fits))
+      rw (stepped_is t p) (table_written o s t (node_at layout p) (step_value t p) fits (below_at p below) (step_shape t p below fits))
+
+  pub stepped_at : (t : List V) (p : ℕ) → p < s.nodes → IsTable o s t → element o (stepped o s layout limits p t) (node_at layout p) ≡ step_value t p
+  stepped_at t p below fits =
+      ap (λ (w : List V). element o w (node_at layout p)) (stepped_is t p)
+      ∙ element-set_same o t (node_at layout p) (step_value t p) (rw fits.size (below_at p below))
+
+  pub stepped_other : (t : List V) (p k : ℕ) → k ≢ node_at layout p → element o (stepped o s layout limits p t) k ≡ element o t k
+  stepped_other t p k differs =
+      ap (λ (w : List V). element o w k) (stepped_is t p) ∙ element-set_other o t (node_at layout p) k (step_value t p) differs
 
   pub stepped_elsewhere : (t : List V) (p j : ℕ) → p < s.nodes → j < s.nodes → j ≢ p
       → element o (stepped o s layout limits p t) (node_at layout j) ≡ element o t (node_at layout j)
   stepped_elsewhere t p j below_p below_j differs =
-      rw (stepped_is t p) (element-set_other o t (node_at layout p) (node_at layout j) (step_value t p)
-      (others o laws s system layout limits room given j p below_j below_p differs))
+      stepped_other t p (node_at layout j) (apart o laws s system layout limits order j p below_j below_p differs)
+
+  -- a step that writes what is there
+  stays : (t : List V) (p : ℕ) → step_value t p ≡ element o t (node_at layout p) → stepped o s layout limits p t ≡ t
+  stays t p same =
+      stepped_is t p ∙ ap (λ (v : V). set t (node_at layout p) v) same ∙ set-get_or t (node_at layout p) (o.bottom 0)
+
+  -- by the same value an element shrinks no more
+  shrunk_again : (head : Bool) (x y l : V) → AreAlike o x y l → o.shape x ≡ o.shape y → shrunk head (shrunk head x y l) y l ≡ shrunk head x y l
+  shrunk_again true x y l alike same = laws.narrow_again x y l alike
+  shrunk_again false x y l alike same =
+      laws.meet_of_below (o.meet x y) y (laws.meet_shape x y same ∙ same) (laws.meet_element x y same) (laws.meet_below_right x y same)
+
+  -- a step leaves up to date what its visit leaves unmarked
+  module _ (p : ℕ) (t u : List V) (marks after : List Bool) (c d : ℕ) (below : p < s.nodes) (fits : IsTable o s t)
+      (is : u ≡ stepped o s layout limits p t) (visits : Visits o s (node_at layout p) t u marks after c d) where
+    fits_after : IsTable o s u
+    fits_after = rw is (stepped_fits t p below fits)
+
+    other_after : (k : ℕ) → k ≢ node_at layout p → element o u k ≡ element o t k
+    other_after k differs = rw is (stepped_other t p k differs)
+
+    here_after : element o u (node_at layout p) ≡ step_value t p
+    here_after = rw is (stepped_at t p below fits)
+
+    value_kept : (q : ℕ) → q < s.nodes → IsFalse (has_mark after (node_at layout q)) → s.value (node_at layout q) u ≡ s.value (node_at layout q) t
+    value_kept q below_q unmarked =
+        system.local (node_at layout q) u t (below_at q below_q) fits_after fits
+        (λ r. reads_kept o laws s (node_at layout p) (node_at layout q) r t u marks after c d fits fits_after (below_at p below) (below_at q below_q)
+        other_after visits unmarked)
+
+    own_kept : IsFalse (has_mark after (node_at layout p)) → step_value u p ≡ element o u (node_at layout p)
+    own_kept unmarked =
+        let k = node_at layout p in
+        let at = below_at p below in
+        let head = begins_component layout p in
+        let again = shrunk_again head (element o t k) (s.value k t) (element o limits k) (may_narrow t k at fits) (may_meet t k at fits) in
+        ap (λ (v : V). shrunk head v (s.value k u) (element o limits k)) here_after
+        ∙ ap (λ (v : V). shrunk head (step_value t p) v (element o limits k)) (value_kept p below unmarked)
+        ∙ again ∙ sym here_after
+
+    other_kept : (q : ℕ) → q < s.nodes → q ≢ p → IsFalse (has_mark after (node_at layout q)) → stepped o s layout limits q t ≡ t
+        → step_value u q ≡ element o u (node_at layout q)
+    other_kept q below_q differs unmarked before =
+        let k = node_at layout q in
+        let same = other_after k (apart o laws s system layout limits order q p below_q below differs) in
+        let head = begins_component layout q in
+        ap (λ (v : V). shrunk head v (s.value k u) (element o limits k)) same
+        ∙ ap (λ (v : V). shrunk head (element o t k) v (element o limits k)) (value_kept q below_q unmarked)
+        ∙ sym (stepped_at t q below_q fits) ∙ ap (λ (w : List V). element o w k) before ∙ sym same
+
+    pub up_to_date_after : IsUpToDate o s layout limits marks t → IsUpToDate o s layout limits after u
+    up_to_date_after up q below_q unmarked = elim (cases_eq q p) [
+      | inl same ↦ subst (λ (i : ℕ). stepped o s layout limits i u ≡ u) (sym same)
+          (stays u p (own_kept (subst (λ (i : ℕ). IsFalse (has_mark after (node_at layout i))) same unmarked)))
+      | inr differs ↦
+          let other = apart o laws s system layout limits order q p below_q below differs in
+          let before = up q below_q (unmarked_before o laws s (node_at layout p) (node_at layout q) t u marks after c d visits other unmarked) in
+          stays u q (other_kept q below_q differs unmarked before)
+    ]
 
   -- a place's part of the slack
   abbrev part : List V → ℕ → ℕ
@@ -107,7 +185,7 @@ module _ {V P : Type 0} {has : V → P → Type 0} (o : Ops V) (laws : IsLattice
       → slack o layout limits (stepped o s layout limits p t) s.nodes < slack o layout limits t s.nodes
   slack_at_true t p below fits changes =
       let k = node_at layout p in
-      let at = in_range o laws s system layout limits room given p below in
+      let at = below_at p below in
       let head : begins_component layout p ≡ true = lt-ltb p (end_at layout p) changes.0 in
       let low = o.narrow (element o t k) (s.value k t) (element o limits k) in
       let written : element o (stepped o s layout limits p t) k ≡ low =

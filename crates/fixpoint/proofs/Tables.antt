@@ -3,7 +3,7 @@ use Rattle.std.proofs.Common.{◌≡◌, ℕ, ◌<◌, List, length, sym, ap, �
 use Rattle.std.specs.Prelude.{IsTrue, ◌≢◌}
 use Rattle.std.specs.List.{Contains}
 use Rattle.std.proofs.lemmas.Bool.{cases_eq}
-use Rattle.std.proofs.lemmas.List.{get_or-map, length-map, length-set, map-set}
+use Rattle.std.proofs.lemmas.List.{get_or-map, length-map, length-set, map-set, set-get_or}
 use Rattle.std.proofs.lemmas.List.Edits.{map_over_more}
 use Rattle.lattice.specs.Lattice.{Ops}
 use Rattle.fixpoint.specs.Ascent.{bottoms, met, IsWithin}
@@ -64,3 +64,8 @@ value_at o f xs k x inside = sym (get_or-map f xs k x (o.bottom 0) inside)
 pub value_written : {X V : Type 0} (o : Ops V) (f : X → V) (xs : List X) (k : ℕ) (y : X) → k < length xs → element o (map f (set xs k y)) k ≡ f y
 value_written o f xs k y inside =
     ap (λ (vs : List _). element o vs k) (map-set f xs k y) ∙ get_or-set_same (map f xs) k (f y) (o.bottom 0) (rw length-map inside)
+
+-- a write of the value that is there
+pub unchanged : {X V : Type 0} (f : X → V) (xs : List X) (k : ℕ) (d y : X) → k < length xs → f y ≡ f (get_or xs k d) → map f (set xs k y) ≡ map f xs
+unchanged f xs k d y inside same =
+    map-set f xs k y ∙ ap (λ (v : _). set (map f xs) k v) (same ∙ sym (get_or-map f xs k d (f d) inside)) ∙ set-get_or (map f xs) k (f d)

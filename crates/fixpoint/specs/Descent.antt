@@ -2,12 +2,11 @@
 use Rattle.std.specs.Prelude.{◌≡◌, ℕ, List, [], ◌∷◌, ◌++◌, slice_set}
 use Rattle.std.specs.List.{Contains}
 use Rattle.std.proofs.Common.{subst, sym}
-use Rattle.std.proofs.lemmas.List.Elements.{Contains-append_left, Contains-append_right}
 use Rattle.lattice.specs.Lattice.{Ops}
 use Rattle.weak_order.specs.Order.{Elements, nodes_of}
 use Rattle.weak_order.specs.Order.Elements.{none, node, component}
-use Rattle.fixpoint.specs.Members.{contains_first, contains_later}
-use Rattle.fixpoint.specs.System.{System, element}
+use Rattle.fixpoint.specs.Members.{contains_first, contains_later, contains_left, contains_right}
+use Rattle.fixpoint.specs.System.{System, change, element}
 
 -- the table in which a node was met with its equation's value
 abbrev pub lowered : {V : Type 0} → Ops V → System V → List V → ℕ → List V
@@ -38,7 +37,21 @@ pub data IsDescent {V : Type 0} (o : Ops V) (s : System V) (limits : List V) (el
   next : {t u : List V} → ¬ KeepsHeads o elements t (pass o s limits elements t) → IsDescent o s limits elements (pass o s limits elements t) u
       → IsDescent o s limits elements t u
 
--- what each step of a pass keeps, the pass keeps: a pass is a list of tables, each of which differs from the one before at one node
+-- A descent is a list of tables, each of which differs from the one before at one node. These are the nodes at which they do.
+abbrev pub pass_changes : {V : Type 0} → Ops V → System V → List V → Elements → List V → List ℕ
+pass_changes o s limits none t = []
+pass_changes o s limits (node k rest) t = change o t (lowered o s t k) k ++ pass_changes o s limits rest (lowered o s t k)
+pass_changes o s limits (component head body rest) t =
+    let low = narrowed o s limits t head in
+    change o t low head ++ pass_changes o s limits body low ++ pass_changes o s limits rest (pass o s limits body low)
+
+abbrev pub descent_changes : {V : Type 0} (o : Ops V) (s : System V) (limits : List V) (elements : Elements) (t u : List V)
+    → IsDescent o s limits elements t u → List ℕ
+descent_changes o s limits elements t u (last keeps is) = pass_changes o s limits elements t
+descent_changes o s limits elements t u (next changes after) =
+    pass_changes o s limits elements t ++ descent_changes o s limits elements (pass o s limits elements t) u after
+
+-- what each step of a pass keeps, the pass keeps
 pub pass_keeps : {V : Type 0} (o : Ops V) (s : System V) (limits : List V) (elements : Elements) (P : List V → Type 0)
     → ((k : ℕ) (t : List V) → Contains (nodes_of elements) k → P t → P (lowered o s t k))
     → ((k : ℕ) (t : List V) → Contains (nodes_of elements) k → P t → P (narrowed o s limits t k))
@@ -49,8 +62,8 @@ pass_keeps o s limits (node k rest) P lowers narrows t holds =
     (lowered o s t k) (lowers k t (contains_first k (nodes_of rest)) holds)
 pass_keeps o s limits (component head body rest) P lowers narrows t holds =
     let members = nodes_of body ++ nodes_of rest in
-    let in_body = λ (i : ℕ) (at : Contains (nodes_of body) i). contains_later head i members (Contains-append_left (nodes_of body) (nodes_of rest) i at) in
-    let in_rest = λ (i : ℕ) (at : Contains (nodes_of rest) i). contains_later head i members (Contains-append_right (nodes_of body) (nodes_of rest) i at) in
+    let in_body = contains_left head (nodes_of body) (nodes_of rest) in
+    let in_rest = contains_right head (nodes_of body) (nodes_of rest) in
     let after_head = narrows head t (contains_first head members) holds in
     let after_body = pass_keeps o s limits body P (λ i u at. lowers i u (in_body i at)) (λ i u at. narrows i u (in_body i at)) (narrowed o s limits t head) after_head in
     pass_keeps o s limits rest P (λ i u at. lowers i u (in_rest i at)) (λ i u at. narrows i u (in_rest i at))

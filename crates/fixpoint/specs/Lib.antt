@@ -1,7 +1,9 @@
 pub mod Ascent
 pub mod Descent
+pub mod Marks
 pub mod Members
 pub mod Passing
 pub mod Progress
+pub mod Reversal
 pub mod System
 pub mod Worked

@@ -9,6 +9,11 @@ pub trait Equations<L: Lattice> {
     /// What contracts see of the equations.
     ghost system: { Self → System L.Plain };
 
+    /// What the implementing type keeps of itself through an evaluation, as the names of what it borrows.
+    ghost Kept: { Type 0 };
+
+    ghost kept: { Self → Kept };
+
     /// How many nodes there are; they are numbered from 0.
     fn nodes(&self) -> u32
         ensures { result ≡ (system self.now).nodes };
@@ -26,6 +31,7 @@ pub trait Equations<L: Lattice> {
         ensures value { L.value out.new ≡ (system self.old).value node (map L.value table.now) }
         ensures room { L.room out.new ≡ L.room out.old }
         ensures same { system self.new ≡ system self.old }
+        ensures kept { kept self.new ≡ kept self.old }
         ensures counted { count.new ≡ count.old + 1 };
 
     /// Each equation is a function of the elements that it reads, and gives a value of its node's shape.

@@ -6,3 +6,5 @@ mod Remainders
 mod Sizes
 mod Sound
 mod SoundUnary
+mod NextStep
+mod Unmoved

@@ -6,5 +6,7 @@ pub mod IntervalLaws
 pub mod Intervals
 pub mod Same
 pub mod Soundness
+pub mod StepLaws
+pub mod Steps
 pub mod ValueLaws
 pub mod Values

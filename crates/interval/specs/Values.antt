@@ -1,12 +1,14 @@
 -- Values of cells: whether a cell may be undefined, and the numbers that it may hold. They are a lattice with the widening of
--- intervals to the bounds of a limit (after Cousot and Cousot, POPL 1977) and a narrowing that moves only bounds of the limit.
-use Rattle.std.specs.Prelude.{ℕ, ◌+◌, Bool, false, not, ◌&&◌, ◌||◌, IsTrue, Option, Some, None, if◌then◌else◌, ℤ, int_lt}
+-- intervals by steps to the bounds of a limit (after Cousot and Cousot, POPL 1977) and a narrowing that moves only bounds of the
+-- limit.
+use Rattle.std.specs.Prelude.{ℕ, ◌+◌, ◌*◌, Bool, false, not, ◌&&◌, ◌||◌, IsTrue, List, length, Option, Some, None, if◌then◌else◌, ℤ, int_lt}
 use Rattle.std.specs.Int.{int_min, int_max}
 use Rattle.std.specs.Ordering.{int_eq}
 use Rattle.lattice.specs.Lattice.{Ops}
 use Rattle.interval.specs.declared.itv.Itv.{Itv}
 use Rattle.interval.specs.declared.val.Val.{Val}
 use Rattle.interval.specs.Intervals.{IsIn, is_empty, empty, interval, meet, join, is_within}
+use Rattle.interval.specs.Steps.{step_up, step_down, moves_up, moves_down, one_if}
 
 -- a cell of this value may be undefined, or hold the number
 abbrev pub Allows : Val → Option ℤ → Type 0
@@ -28,22 +30,22 @@ val_join v w = record { undef = v.undef || w.undef; itv = join v.itv w.itv }
 abbrev pub val_meet : Val → Val → Val
 val_meet v w = record { undef = v.undef && w.undef; itv = meet v.itv w.itv }
 
--- ---- widening: a bound of y that lies outside x becomes that of the limit
+-- ---- widening: a bound of y that lies outside x moves to the next step, or to the limit's bound where none comes before it
 
-abbrev pub widened_low : Itv → Itv → Itv → ℤ
-widened_low x y limit = if int_lt y.lo x.lo then limit.lo else x.lo
+abbrev pub widened_low : List ℤ → Itv → Itv → Itv → ℤ
+widened_low steps x y limit = if int_lt y.lo x.lo then step_down steps y.lo limit.lo else x.lo
 
-abbrev pub widened_high : Itv → Itv → Itv → ℤ
-widened_high x y limit = if int_lt x.hi y.hi then limit.hi else x.hi
+abbrev pub widened_high : List ℤ → Itv → Itv → Itv → ℤ
+widened_high steps x y limit = if int_lt x.hi y.hi then step_up steps y.hi limit.hi else x.hi
 
-abbrev pub widen : Itv → Itv → Itv → Itv
-widen x y limit =
+abbrev pub widen : List ℤ → Itv → Itv → Itv → Itv
+widen steps x y limit =
     if is_empty x then y
     else (if is_empty y then x
-    else interval (widened_low x y limit) (widened_high x y limit))
+    else interval (widened_low steps x y limit) (widened_high steps x y limit))
 
-abbrev pub val_widen : Val → Val → Val → Val
-val_widen v w limit = record { undef = v.undef || w.undef; itv = widen v.itv w.itv limit.itv }
+abbrev pub val_widen : List ℤ → Val → Val → Val → Val
+val_widen steps v w limit = record { undef = v.undef || w.undef; itv = widen steps v.itv w.itv limit.itv }
 
 -- ---- narrowing: a bound of x that is the limit's becomes the tighter one of x and y
 
@@ -70,20 +72,23 @@ val_narrow v w limit = record { undef = v.undef && w.undef; itv = narrow v.itv w
 
 -- ---- how often a value can still change
 
-abbrev pub one_if : Bool → ℕ
-one_if b = if b then 1 else 0
-
--- an empty interval can get numbers, and then each bound can become the limit's
-abbrev pub growth : Itv → Itv → ℕ
-growth limit x =
-    if is_empty x then 3
-    else one_if (not (int_eq x.lo limit.lo)) + one_if (not (int_eq x.hi limit.hi))
+-- an empty interval can get numbers, and then each bound can move to the limit's
+abbrev pub growth : List ℤ → Itv → Itv → ℕ
+growth steps limit x =
+    if is_empty x then 3 + 2 * length steps
+    else moves_down steps x.lo limit.lo + moves_up steps x.hi limit.hi
 
 -- each bound can leave the limit's, and then an interval can become empty
 abbrev pub shrinkage : Itv → Itv → ℕ
 shrinkage limit x =
     if is_empty x then 0
     else 1 + one_if (is_low_end x limit) + one_if (is_high_end x limit)
+
+abbrev pub val_growth : List ℤ → Val → Val → ℕ
+val_growth steps limit v = one_if (not v.undef) + growth steps limit.itv v.itv
+
+abbrev pub val_shrinkage : Val → Val → ℕ
+val_shrinkage limit v = one_if v.undef + shrinkage limit.itv v.itv
 
 abbrev pub val_ops : Ops Val
 val_ops = record {
@@ -93,9 +98,9 @@ val_ops = record {
   below = val_below;
   join = val_join;
   meet = val_meet;
-  widen = val_widen;
+  widen = λ v w limit steps. val_widen steps v w limit;
   narrow = val_narrow;
-  widening_rank = λ limit v. one_if (not v.undef) + growth limit.itv v.itv;
-  narrowing_rank = λ limit v. one_if v.undef + shrinkage limit.itv v.itv;
-  height = λ _. 4;
+  widening_rank = λ limit steps v. val_growth steps limit v;
+  narrowing_rank = val_shrinkage;
+  height = λ _ steps. 4 + 2 * length steps;
 }

@@ -54,6 +54,18 @@ impl Itv {
         }
     }
 
+    /// The numbers from `lo` to `hi`, which are numbers of the language.
+    fn of_numbers(lo: i32, hi: i32) -> Itv
+        requires low { IsNumber lo }
+        requires high { IsNumber hi }
+        ensures { result ≡ interval lo hi }
+    {
+        if hi < lo {
+            return Itv::EMPTY;
+        }
+        Itv { lo, hi }
+    }
+
     /// Whether it has no number.
     pub fn is_empty(self) -> bool
         ensures { result ≡ is_empty self }
@@ -79,10 +91,7 @@ impl Itv {
     pub fn meet(self, other: Itv) -> Itv
         ensures { result ≡ meet self other }
     {
-        Itv::between(
-            i64::from(self.lo.max(other.lo)),
-            i64::from(self.hi.min(other.hi)),
-        )
+        Itv::of_numbers(self.lo.max(other.lo), self.hi.min(other.hi))
     }
 
     /// The least interval around the numbers of both.
@@ -102,9 +111,6 @@ impl Itv {
     fn hull(self, other: Itv) -> Itv
         ensures { result ≡ hull self other }
     {
-        Itv::between(
-            i64::from(self.lo.min(other.lo)),
-            i64::from(self.hi.max(other.hi)),
-        )
+        Itv::of_numbers(self.lo.min(other.lo), self.hi.max(other.hi))
     }
 }

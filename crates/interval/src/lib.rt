@@ -5,6 +5,7 @@ mod answer;
 mod ends;
 mod forward;
 mod itv;
+mod steps;
 mod tables;
 #[cfg(test)]
 mod tests;

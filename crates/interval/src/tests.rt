@@ -1,6 +1,7 @@
 //! The tables against the ends of the range, and against plain enumeration of the numbers of small intervals.
-use crate::{Answer, Itv, binary, clip, unary};
+use crate::{Answer, Itv, Val, binary, clip, unary};
 use arithmetic::{binary_result, unary_result};
+use lattice::Lattice;
 use px_base::{BinOp, Kind, UnOp};
 use std::alloc::{AllocError, Global};
 use std::test::Fail;
@@ -145,6 +146,47 @@ fn of_a_range(rt: HostRuntime) {
             x.0,
             x.1
         );
+    }
+}
+
+/// The value of a cell that is defined, with the numbers from `lo` to `hi`.
+fn defined(lo: i64, hi: i64) -> Val {
+    Val {
+        undef: false,
+        itv: Itv::between(lo, hi),
+    }
+}
+
+#[test]
+fn widens_by_steps(rt: HostRuntime) {
+    let limit = defined(-10, 10);
+    // x, y, and x widened by y within -10..10
+    let cases = [
+        // to the next step, which may be the bound itself
+        ((1, 1), (1, 2), (1, 5)),
+        ((1, 1), (1, 5), (1, 5)),
+        ((1, 1), (0, 1), (0, 1)),
+        ((1, 1), (-1, 1), (-5, 1)),
+        // to the limit, where no step comes before its bound
+        ((1, 1), (1, 6), (1, 10)),
+        ((1, 1), (-6, 1), (-10, 1)),
+        // both bounds, and none
+        ((1, 1), (-4, 6), (-5, 10)),
+        ((1, 3), (2, 2), (1, 3)),
+        // without numbers on one side
+        ((1, 0), (2, 2), (2, 2)),
+        ((2, 2), (1, 0), (2, 2)),
+    ];
+    for (x, y, wider) in cases {
+        let mut found = defined(x.0, x.1);
+        let y = defined(y.0, y.1);
+        assert!(rt; found.leq(&limit) && y.leq(&limit));
+        assert_eq!(rt;
+            found.widen_from(&y, &limit, &[-5, 0, 5, 10]),
+            x != wider,
+            "{x:?} by {y:?}"
+        );
+        assert_eq!(rt; found, defined(wider.0, wider.1), "{x:?} by {y:?}");
     }
 }
 

@@ -9,4 +9,4 @@ pub struct Val {
     pub itv: Itv,
 }
 
-const _: () = prove!(size_of::<Val>() <= 16);
+const _: () = prove!(size_of::<Val>() <= 12);

@@ -1,5 +1,5 @@
 -- The least lattice that is no single point, as an example of how the laws are met: whether a place is reached.
-use Rattle.std.specs.Prelude.{◌≢◌, ℕ, ◌<◌, ◌≤◌, Bool, true, false, not, ◌&&◌, ◌||◌, IsTrue, refl}
+use Rattle.std.specs.Prelude.{◌≡◌, ◌≢◌, ℕ, ◌<◌, ◌≤◌, Bool, true, false, not, ◌&&◌, ◌||◌, IsTrue, refl}
 use Rattle.std.proofs.Common.{lit<, lit≤}
 use Rattle.lattice.specs.Lattice.{Ops, IsLattice}
 
@@ -16,11 +16,11 @@ reached_ops = record {
   below = λ x y. not x || y;
   join = λ x y. x || y;
   meet = λ x y. x && y;
-  widen = λ x y _. x || y;
+  widen = λ x y _ _. x || y;
   narrow = λ x y _. x && y;
-  widening_rank = λ _ x. rank (not x);
+  widening_rank = λ _ _ x. rank (not x);
   narrowing_rank = λ _ x. rank x;
-  height = λ _. 1;
+  height = λ _ _. 1;
 }
 
 -- the one point is there where the place is reached
@@ -97,6 +97,30 @@ and_bottom : (x y : Bool) → IsTrue (not x) → IsTrue (not (x && y))
 and_bottom false y h = refl
 and_bottom true y h = cc
 
+both_below : (x y : Bool) → IsTrue (not x || y) → IsTrue (not y || x) → x ≡ y
+both_below false false a b = refl
+both_below false true a b = cc
+both_below true false a b = cc
+both_below true true a b = refl
+
+pub and_itself : (x : Bool) → (x && x) ≡ x
+and_itself false = refl
+and_itself true = refl
+
+and_of_below : (x y : Bool) → IsTrue (not x || y) → (x && y) ≡ x
+and_of_below false y h = refl
+and_of_below true y h = h
+
+or_of_below : (x y : Bool) → IsTrue (not y || x) → (x || y) ≡ x
+or_of_below true y h = refl
+or_of_below false false h = refl
+or_of_below false true h = cc
+
+and_again : (x y : Bool) → ((x && y) && y) ≡ (x && y)
+and_again false y = refl
+and_again true false = refl
+and_again true true = refl
+
 pub reached_laws : IsLattice reached_ops reached_has
 reached_laws = record {
   bottom_shape = λ _. refl;
@@ -105,6 +129,7 @@ reached_laws = record {
   bottom_below = λ x y _. implied_by_false x y;
   below_itself = implied_by_itself;
   below_has = λ x y _ _. implied x y;
+  below_both = λ x y _. both_below x y;
   join_shape = λ _ _ _. refl;
   join_above_left = λ x y _. or_left x y;
   join_above_right = λ x y _. or_right x y;
@@ -114,16 +139,21 @@ reached_laws = record {
   meet_below_left = λ x y _. and_left x y;
   meet_below_right = λ x y _. and_right x y;
   meet_has = λ x y _ _. and_has x y;
-  widen_shape = λ _ _ _ _. refl;
-  widen_above_left = λ x y _ _. or_left x y;
-  widen_above_right = λ x y _ _. or_right x y;
-  widen_within = λ x y l w. or_within x y l w.left_below w.right_below;
-  widen_falls = λ x y _ _. or_falls x y;
+  meet_element = λ x y _. and_itself (x && y);
+  meet_of_below = λ x y _ _. and_of_below x y;
+  widen_shape = λ _ _ _ _ _ _. refl;
+  widen_above_left = λ x y _ _ _ _. or_left x y;
+  widen_above_right = λ x y _ _ _ _. or_right x y;
+  widen_within = λ x y l _ w _. or_within x y l w.left_below w.right_below;
+  widen_falls = λ x y _ _ _ _. or_falls x y;
+  widen_of_below = λ x y _ _ _ _. or_of_below x y;
   narrow_shape = λ _ _ _ _. refl;
   narrow_has = λ x y _ _ _. and_has x y;
   narrow_below = λ x y _ _. and_left x y;
   narrow_bottom = λ x y _ _. and_bottom x y;
   narrow_falls = λ x y _ _. and_falls x y;
-  widening_bound = λ x _ _. rank_bound (not x);
-  narrowing_bound = λ x _ _. rank_bound x;
+  narrow_again = λ x y _ _. and_again x y;
+  meet_below_narrow = λ x y _ _. implied_by_itself (x && y);
+  widening_bound = λ x _ _ _. rank_bound (not x);
+  narrowing_bound = λ x _ _ _. rank_bound x;
 }

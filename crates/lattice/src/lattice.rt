@@ -1,6 +1,6 @@
 ghost use Rattle.std.specs.Prelude.{◌≡◌, ◌≢◌, ℕ, ◌≤◌, IsTrue};
 ghost use Rattle.std.specs.Bool.{OnTrue, OnFalse};
-ghost use Rattle.lattice.specs.Lattice.{Ops, IsLattice};
+ghost use Rattle.lattice.specs.Lattice.{Ops, AreSteps, IsElement, IsLattice};
 
 /// An element of a lattice of finite height with a widening and a narrowing (Cousot and Cousot, POPL 1977).
 ///
@@ -59,13 +59,15 @@ pub trait Lattice: Sized {
         requires { ops.shape (value self.now) ≡ ops.shape (value other.now) }
         ensures { result ≡ ops.below (value self.now) (value other.now) };
 
-    /// Widens the element by `y` within `limit`, and answers whether it changed.
-    fn widen_from(&mut self, y: &Self, limit: &Self) -> bool
+    /// Widens the element by `y` within `limit`, and answers whether it changed. What grows stops at the next of the steps,
+    /// which rise, and else at the limit (widening with thresholds: Blanchet and others, PLDI 2003).
+    fn widen_from(&mut self, y: &Self, limit: &Self, steps: &[i32]) -> bool
         requires shape { ops.shape (value self.old) ≡ ops.shape (value limit.now) }
         requires shape_of_y { ops.shape (value y.now) ≡ ops.shape (value limit.now) }
         requires within { IsTrue (ops.below (value self.old) (value limit.now)) }
         requires y_within { IsTrue (ops.below (value y.now) (value limit.now)) }
-        ensures value { value self.new ≡ ops.widen (value self.old) (value y.now) (value limit.now) }
+        requires steps { AreSteps steps.now }
+        ensures value { value self.new ≡ ops.widen (value self.old) (value y.now) (value limit.now) steps.now }
         ensures room { room self.new ≡ room self.old }
         ensures changed { OnTrue result (value self.new ≢ value self.old) }
         ensures same { OnFalse result (value self.new ≡ value self.old) };
@@ -81,6 +83,9 @@ pub trait Lattice: Sized {
 
     /// What the calls compute obeys the laws.
     ghost laws: { IsLattice ops has };
+
+    /// The value of an element is one that an element can have.
+    ghost elements: { (x : Self) → IsElement ops (value x) };
 
     /// An element has room for its own shape.
     ghost fits: { (x : Self) → ops.shape (value x) ≤ room x };

@@ -1,5 +1,5 @@
 ghost use Rattle.std.proofs.Common.{◌≡◌, ◌<◌, zero-le};
-ghost use Rattle.lattice.specs.Reached.{reached_ops, reached_has, reached_laws};
+ghost use Rattle.lattice.specs.Reached.{and_itself, reached_ops, reached_has, reached_laws};
 
 use crate::{Lattice, Steps};
 use std::marker::Brand;
@@ -23,6 +23,8 @@ impl Lattice for Reached {
     ghost ops = { reached_ops };
 
     ghost laws = { reached_laws };
+
+    ghost elements = { λ x. and_itself x.0 };
 
     ghost fits = { λ _. zero-le };
 
@@ -50,7 +52,7 @@ impl Lattice for Reached {
         !self.0 | other.0
     }
 
-    fn widen_from(&mut self, y: &Self, _limit: &Self) -> bool {
+    fn widen_from(&mut self, y: &Self, _limit: &Self, _steps: &[i32]) -> bool {
         let changed = y.0 & !self.0;
         self.0 = self.0 | y.0;
         changed
@@ -90,7 +92,7 @@ fn the_calls_compute_the_functions(rt: HostRuntime) {
         assert!(rt; both == meet);
         assert!(rt; x.leq(&y) == below);
         let mut wide = x;
-        assert!(rt; wide.widen_from(&y, &yes) == grows);
+        assert!(rt; wide.widen_from(&y, &yes, &[]) == grows);
         assert!(rt; wide == join);
         let mut narrow = x;
         assert!(rt; narrow.narrow_from(&y, &yes) == shrinks);

@@ -1,3 +1,4 @@
+pub mod Around
 pub mod Awaiting
 pub mod Below
 pub mod Closing

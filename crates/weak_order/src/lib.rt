@@ -7,6 +7,7 @@ mod counts;
 mod edges;
 mod laws;
 mod listing;
+mod measures;
 mod nesting;
 mod parts;
 mod queue;

@@ -1,6 +1,8 @@
-ghost use Rattle.std.specs.Prelude.{◌≡◌, ℕ, ◌<◌, length, slice_index, nat_lt};
-ghost use Rattle.weak_order.specs.Order.{AreColumns, depth_at};
+ghost use Rattle.std.specs.Prelude.{◌≡◌, ℕ, ◌<◌, ◌^◌, length, slice_index, nat_lt, vec_len, IfOk};
+ghost use Rattle.weak_order.specs.Order.{IsHeadAround, IsLayout, depth_at};
 
+use crate::measures::{depths, heads, heads_around};
+use std::alloc::{AllocError, Global};
 use std::marker::Model;
 
 /// A weak topological order: each node once, from left to right, in nested components.
@@ -10,6 +12,7 @@ pub struct Order {
     ends: Vec<u32>,
     depths: Vec<u32>,
     heads: Vec<bool>,
+    around: Vec<Option<u32>>,
 }
 
 impl Model for Order {
@@ -19,20 +22,27 @@ impl Model for Order {
 
     ghost view = { λ o. record { nodes = o.nodes.items; ends = o.ends.items } };
 
-    ghost invariant = { λ o. AreColumns o.nodes.items o.ends.items o.depths.items o.heads.items };
+    ghost invariant = { λ o. AreColumns o.nodes.items o.ends.items o.depths.items o.heads.items o.around.items };
 }
 
 impl Order {
-    pub(crate) fn new(nodes: Vec<u32>, ends: Vec<u32>, depths: Vec<u32>, heads: Vec<bool>) -> Order
-        requires { AreColumns nodes.items ends.items depths.items heads.items }
-        ensures { result ≡ record { nodes = nodes.items; ends = ends.items } }
+    /// The order whose columns are given: the node at each place, and one past the component that begins there, or the
+    /// place itself. It fails for want of memory alone.
+    pub fn from_columns(alloc: Global, nodes: Vec<u32>, ends: Vec<u32>) -> Result<Order, AllocError>
+        requires few { vec_len nodes < 2 ^ 32 }
+        requires layout { IsLayout (record { nodes = nodes.items; ends = ends.items }) }
+        ensures { IfOk result (λ order. order ≡ record { nodes = nodes.items; ends = ends.items }) }
     {
-        Order {
+        let around = heads_around(alloc, &ends)?;
+        let depths = depths(alloc, &nodes, &ends, &around)?;
+        let heads = heads(alloc, &nodes, &ends)?;
+        Ok(Order {
             nodes,
             ends,
             depths,
             heads,
-        }
+            around,
+        })
     }
 
     /// How many nodes there are, which is how many places there are.
@@ -72,5 +82,13 @@ impl Order {
         ensures { (p : ℕ) → p < length self.now.nodes → slice_index self.now.nodes p ≡ node → result ≡ nat_lt p (slice_index self.now.ends p) }
     {
         self.heads[node as usize]
+    }
+
+    /// The place of the head of the innermost component around the place, other than one that begins there.
+    pub fn head_around(&self, place: u32) -> Option<u32>
+        requires { place < length self.now.nodes }
+        ensures { IsHeadAround self.now.ends place result }
+    {
+        self.around[place as usize]
     }
 }

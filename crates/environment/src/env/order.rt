@@ -1,11 +1,11 @@
 //! Environments as a lattice.
 ghost use Rattle.std.proofs.Common.{◌≤◌};
 ghost use Rattle.environment.specs.Environments.{Covers, env_ops};
-ghost use Rattle.environment.specs.EnvironmentLaws.{env_laws};
+ghost use Rattle.environment.specs.EnvironmentLaws.{env_laws, proper_element};
 ghost use Rattle.environment.specs.Kept.{room_of, fits_its_room};
 
 use super::{Cells, Env};
-use crate::passes::{are_below, join_cells, meet_cells, narrow_cells, widen_cells};
+use crate::passes::{are_below, copy_cells, join_cells, meet_cells, narrow_cells, widen_cells};
 use lattice::Lattice;
 
 impl Lattice for Env {
@@ -25,6 +25,8 @@ impl Lattice for Env {
 
     ghost laws = { env_laws };
 
+    ghost elements = { λ e. proper_element e.env e.proper };
+
     ghost fits = { fits_its_room };
 
     fn is_bottom(&self) -> bool {
@@ -37,8 +39,7 @@ impl Lattice for Env {
 
     fn copy_from(&mut self, other: &Self) {
         if other.reachable {
-            self.cells.clear();
-            self.cells.extend_from_slice(&other.cells).unwrap();
+            copy_cells(&mut self.cells, &other.cells);
         }
         self.count = other.count;
         self.reachable = other.reachable;
@@ -67,7 +68,7 @@ impl Lattice for Env {
         !self.reachable || other.reachable && are_below(&self.cells, &other.cells)
     }
 
-    fn widen_from(&mut self, y: &Self, limit: &Self) -> bool {
+    fn widen_from(&mut self, y: &Self, limit: &Self, steps: &[i32]) -> bool {
         if !y.reachable {
             return false;
         }
@@ -75,7 +76,7 @@ impl Lattice for Env {
             self.copy_from(y);
             return true;
         }
-        widen_cells(&mut self.cells, &y.cells, &limit.cells)
+        widen_cells(&mut self.cells, &y.cells, &limit.cells, steps)
     }
 
     fn narrow_from(&mut self, y: &Self, limit: &Self) -> bool {
@@ -86,7 +87,13 @@ impl Lattice for Env {
             self.reachable = false;
             return true;
         }
-        match narrow_cells(&mut self.cells, &y.cells, limit) {
+        let limits = if limit.reachable {
+            &limit.cells
+        } else {
+            // within itself no bound moves
+            &y.cells
+        };
+        match narrow_cells(&mut self.cells, &y.cells, limits) {
             Some(changed) => changed,
             None => {
                 self.reachable = false;

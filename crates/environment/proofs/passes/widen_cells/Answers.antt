@@ -33,7 +33,7 @@ widen_from-requires-clause-y_within c =
 pub loop-i-preserved : goal.loop-i-preserved
 loop-i-preserved c = record {
   so_far =
-      done_within_more val_widen c.loop-i.cells c.args.others.now c.args.limits.now c.loop-i.i _ _ _ _ _ _ _ refl c.index-others-i.is c.index-limits-i.is c.widen_from.ensures.value (omega arith)
+      done_within_more (val_widen c.args.steps.now) c.loop-i.cells c.args.others.now c.args.limits.now c.loop-i.i _ _ _ _ _ _ _ refl c.index-others-i.is c.index-limits-i.is c.widen_from.ensures.value (omega arith)
       (omega (arith, as_limits c.args.cells.now c.args.others.now c.args.limits.now c.requires.within c.requires.others_within))
       (omega (arith, length_below c.args.cells.now c.args.limits.now c.requires.within)) ∙
       c.loop-i.invariant.so_far;

@@ -1,6 +1,7 @@
 use Rattle.std.proofs.Common.{refl}
+use Rattle.std.proofs.lemmas.Bool.{OnFalse_at, OnFalse_from}
 use Rattle.std.proofs.lemmas.List.{map-set}
-use Rattle.fixpoint.proofs.Tables.{value_at, value_read, value_written}
+use Rattle.fixpoint.proofs.Tables.{value_at, value_read, value_written, unchanged}
 use Rattle.fixpoint.proofs.descent.narrow.Goals as goal
 
 pub returns-clause-value : goal.returns-clause-value
@@ -17,9 +18,7 @@ returns-clause-changed g c =
     let y = value_written o g.L.Lattice.value c.args.table.now c.args.node c.narrow_from.new.self c.requires.node in
     rw (y, ← x) c.narrow_from.ensures.changed
 
-pub returns-clause-kept : goal.returns-clause-kept
-returns-clause-kept g c =
-    let o = g.L.Lattice.ops in
-    let x = value_at o g.L.Lattice.value c.args.table.now c.args.node c.index-table-node.result c.requires.node in
-    let y = value_written o g.L.Lattice.value c.args.table.now c.args.node c.narrow_from.new.self c.requires.node in
-    rw (y, ← x) c.narrow_from.ensures.same
+pub returns-clause-same : goal.returns-clause-same
+returns-clause-same g c =
+    OnFalse_from c.narrow_from.result _ (λ same. unchanged g.L.Lattice.value c.args.table.now c.args.node c.index-table-node.result c.narrow_from.new.self
+    c.requires.node (OnFalse_at same c.narrow_from.ensures.same))

@@ -1,8 +1,8 @@
-use Rattle.std.proofs.Common.{◌≡◌, ℕ, ◌<◌, length}
+use Rattle.std.proofs.Common.{◌≡◌, ℕ, ◌<◌, length, map}
 use Rattle.std.specs.List.{Contains}
-use Rattle.fixpoint.specs.Worked.{rule_at}
+use Rattle.fixpoint.specs.Reversal.{list_at}
 use Rattle.fixpoint.proofs.tests.order_of.Given as goal
 
 abbrev pub invariant-loop-node : goal.invariant-loop-node
 invariant-loop-node l = (l.edges.nodes ≡ length l.system.equations.now)
-    × ((k r : ℕ) → k < l.node → Contains (rule_at l.system.equations.now k).reads r → Contains l.edges.pairs (r, k))
+    × ((k r : ℕ) → k < l.node → Contains (list_at (map (λ v. v.items) l.system.reads.now) k) r → Contains l.edges.pairs (r, k))

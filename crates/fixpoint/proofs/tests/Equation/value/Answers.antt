@@ -1,5 +1,5 @@
 use Rattle.std.proofs.Common.{◌≡◌, ◌+◌, ◌<◌, ℕ, length, take, sym, ap, ◌∙◌, subst, get_or, arith}
-use Rattle.std.specs.List.{Contains, fold}
+use Rattle.std.specs.List.{fold}
 use Rattle.std.proofs.lemmas.List.Elements.{Contains-get_or}
 use Rattle.interval.specs.declared.val.Val.{Val}
 use Rattle.interval.specs.Values.{val_join}
@@ -10,19 +10,17 @@ use Rattle.fixpoint.proofs.tests.Equation.value.Goals as goal
 pub bounds-table-node : goal.bounds-table-node
 bounds-table-node c =
     let i = c.loop-node.node-index in
-    let inside : i < length c.self.inside.reads.now = omega (arith, c.loop-node-test.true) in
-    let below : Rule → Type 0 = λ rule. (r : ℕ) → Contains rule.reads r → r < length c.args.table.now in
-    subst below (sym c.self.view_is) c.requires (get_or c.self.inside.reads.now i 0) (Contains-get_or c.self.inside.reads.now i 0 inside)
+    let inside : i < length c.args.reads.now = omega (arith, c.loop-node-test.true) in
+    c.requires (get_or c.args.reads.now i 0) (Contains-get_or c.args.reads.now i 0 inside)
 
 pub loop-node-preserved : goal.loop-node-preserved
 loop-node-preserved c =
     let table = c.args.table.now in
+    let reads = c.args.reads.now in
     let i = c.loop-node.node-index in
-    let at : ℕ → Val → Rule → Type 0 = λ n all rule. all ≡ fold (joined rule table) rule.start (take n rule.reads) in
-    let below : Rule → Type 0 = λ rule. (r : ℕ) → Contains rule.reads r → r < length table in
-    let rule : Rule = record { start = c.self.inside.start; reads = c.self.inside.reads.now; part = c.self.inside.part; step = c.self.inside.step } in
+    let at : ℕ → Val → Rule → Type 0 = λ n all rule. all ≡ fold (joined rule table) rule.start (take n reads) in
+    let rule : Rule = record { start = c.self.inside.start; part = c.self.inside.part; step = c.self.inside.step } in
     subst (at (i + 1) c.join_from.new.self) c.self.view_is
-    (joined_more rule table i c.loop-node.all c.index-table-node.result c.join_from.new.self c.loop-node-test.true
-    (subst below (sym c.self.view_is) c.requires) c.index-table-node.is
+    (joined_more rule reads table i c.loop-node.all c.index-table-node.result c.join_from.new.self c.loop-node-test.true c.requires c.index-table-node.is
     (c.join_from.ensures.value ∙ ap (λ (v : Val). val_join c.loop-node.all v) c.flow.ensures)
     (subst (at i c.loop-node.all) (sym c.self.view_is) c.loop-node.invariant))

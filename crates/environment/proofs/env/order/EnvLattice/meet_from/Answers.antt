@@ -12,8 +12,8 @@ returns-clause-value c =
     let vs = c.self.inside.cells.items in
     let ws = c.other.inside.cells.items in
     let met = c.meet_cells-self-inside in
-    let first : c.args.self.now.env ≡ Reachable vs = reached _ _ _ _ _ c.self.view_is c.if-not-self.false in
-    let second : c.args.other.now.env ≡ Reachable ws = reached _ _ _ _ _ c.other.view_is c.if-not-other.false in
+    let first : c.args.self.now.env ≡ Reachable vs = reached _ _ _ _ _ c.self.view_is c.self.invariant.something c.if-not-self.false in
+    let second : c.args.other.now.env ≡ Reachable ws = reached _ _ _ _ _ c.other.view_is c.other.invariant.something c.if-not-other.false in
     let same : length vs ≡ length ws = as_long c.args.self.now.env c.args.other.now.env vs ws first second c.requires in
     let inputs : each val_meet c.deref_mut.result.now c.deref.result.now ≡ each val_meet vs ws = cc in
     pass_settles _ _ _ vs _ (each val_meet vs ws)
