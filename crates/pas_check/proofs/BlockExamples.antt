@@ -112,6 +112,6 @@ unfolding q r q_body r_block q_block
 later_numbers = simp (out-roll-RoutineBody, q.is, r.is, r_block.is, q_block.is)
 
 -- the variables of a routine: parameters, locals, the result, the hidden ones for calls, and those for `for` statements
-finished_is : (body : Statement) → finished (record { name = upto 10 11; routine = 0; parent = Some 1; level = 1; formals = 4 ∷ 5 ∷ []; result = Some 6; locals = 7 ∷ []; slots = 9 ∷ []; bounds = 8 ∷ [] }) body
-    ≡ record { name = upto 10 11; parent = Some 1; level = 1; formals = 4 ∷ 5 ∷ []; vars = 4 ∷ 5 ∷ 7 ∷ 6 ∷ 9 ∷ 8 ∷ []; result = Some 6; body = body }
-finished_is body = refl
+finished_is : (names : List Span) (body : Statement) → finished (record { name = upto 10 11; routine = 0; parent = Some 1; level = 1; formals = 4 ∷ 5 ∷ []; result = Some 6; locals = 7 ∷ []; slots = 9 ∷ []; bounds = 8 ∷ [] }) names body
+    ≡ record { name = upto 10 11; parent = Some 1; level = 1; names = names; formals = 4 ∷ 5 ∷ []; vars = 4 ∷ 5 ∷ 7 ∷ 6 ∷ 9 ∷ 8 ∷ []; result = Some 6; body = body }
+finished_is names body = refl

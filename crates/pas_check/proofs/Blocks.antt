@@ -1,6 +1,7 @@
 -- Blocks, from their beginning to their end.
 use Rattle.std.proofs.Common.{◌≡◌, ℕ, List, length, Option, Some, Ok, Err, sym, ap, subst, ◌∙◌}
 use Rattle.std.specs.Prelude.{IfErr, OnOk}
+use Rattle.px_base.specs.declared.place.Span.{Span}
 use Rattle.pas_tree.specs.declared.block.Block.{Block}
 use Rattle.pas_tree.specs.declared.block.Routine.{Routine}
 use Rattle.pas_tree.specs.declared.block.RoutineBody.TheViews.{out-Block}
@@ -15,6 +16,7 @@ use Rattle.pas_check.specs.declared.heading.Opened.{Opened}
 use Rattle.pas_check.specs.Blocks.{BlockMay, EndMay, RoutinesMay, Standing, begins, block_built, block_ended, end_allowed, ends, in_routines, left, not_ended, nothing_waits, outer_of, planned, planned_in, standing, statement_of, statements_ended, to_end}
 use Rattle.pas_check.specs.Built.{with_routine}
 use Rattle.pas_check.specs.Headings.{outside}
+use Rattle.pas_check.specs.Hiding.{other_names}
 use Rattle.pas_check.specs.Names.{Name}
 use Rattle.pas_check.specs.Outcome.{Gives, IsMemory, Meets, Outcome, ◌>>=◌}
 use Rattle.pas_check.specs.Sight.{Sight}
@@ -73,20 +75,21 @@ module _ (s : Stage) (p : Opened) (b : Block) (text : List ℕ) (t : Stage) (bod
     pub end_fails : (f : Fault) → end_allowed text w function b ≡ Err f → EndMay s p b text t (Err f)
     end_fails f is = not_ended (tests_by (Err f) is)
 
-    module _ (outer : Outer) (list : List statement.Statement) (after : Built) (whole : statement.Statement) (around : outer ≡ outer_of s) (allowed : end_allowed text w function b ≡ Ok tt)
+    module _ (outer : Outer) (list : List statement.Statement) (after : Built) (names : List Span) (named : names ≡ other_names t.seen.text b) (whole : statement.Statement) (around : outer ≡ outer_of s) (allowed : end_allowed text w function b ≡ Ok tt)
         (form : sequence_form t.seen body t.built ≡ Some (list, after)) (single : whole ≡ statement_of b list) where
-      end_is : (x : Stage) → after.frame.routine ≡ length after.routines → x.seen ≡ record (outside w) { level = outer.level } → x.built ≡ with_routine after.frame whole (record after { frame = outer.frame }) → EndMay s p b text t (Ok x)
+      end_is : (x : Stage) → after.frame.routine ≡ length after.routines → x.seen ≡ record (outside w) { level = outer.level } → x.built ≡ with_routine after.frame names whole (record after { frame = outer.frame }) → EndMay s p b text t (Ok x)
       end_is x number seen built =
           let seen_as : left s.seen w ≡ x.seen = ap (λ (o : Outer). record (outside w) { level = o.level }) (sym around) ∙ sym seen in
-          let built_as : block_built s.built.frame b list after ≡ x.built =
-          ap (λ (o : Outer). with_routine after.frame (statement_of b list) (record after { frame = o.frame })) (sym around)
-          ∙ ap (λ (y : statement.Statement). with_routine after.frame y (record after { frame = outer.frame })) (sym single) ∙ sym built in
+          let built_as : block_built s.built.frame (other_names t.seen.text b) b list after ≡ x.built =
+          ap (λ (o : Outer). with_routine after.frame (other_names t.seen.text b) (statement_of b list) (record after { frame = o.frame })) (sym around)
+          ∙ ap (λ (ns : List Span). with_routine after.frame ns (statement_of b list) (record after { frame = outer.frame })) (sym named)
+          ∙ ap (λ (y : statement.Statement). with_routine after.frame names y (record after { frame = outer.frame })) (sym single) ∙ sym built in
           let form_as : sequence_form t.seen (out-Block b).body t.built ≡ Some (list, after) = ap (λ (ss : List Statement). sequence_form t.seen ss t.built) (sym same) ∙ form in
           subst (λ (y : Stage). EndMay s p b text t (Ok y)) (λ i. record { seen = seen_as i; built = built_as i })
           (ends {w = left s.seen w} {x = (list, after)} (tests_by (Ok tt) allowed) form_as number)
 
       pub block_ends : (x : Stage) (r : Outcome (Unit {0})) → OnOk r (after.frame.routine ≡ length after.routines) → OnOk r (x.seen ≡ record (outside w) { level = outer.level })
-          → OnOk r (x.built ≡ with_routine after.frame whole (record after { frame = outer.frame })) → IfErr r IsMemory → Meets (λ (u : Unit {0}). x) (EndMay s p b text t) r
+          → OnOk r (x.built ≡ with_routine after.frame names whole (record after { frame = outer.frame })) → IfErr r IsMemory → Meets (λ (u : Unit {0}). x) (EndMay s p b text t) r
       block_ends x (Ok u) number seen built memory = end_is x number seen built
       block_ends x (Err (Broken rule at)) number seen built memory = absurd memory
       block_ends x (Err (Memory e)) number seen built memory = λ broken. absurd broken

@@ -1,11 +1,13 @@
 pub mod Begins
 pub mod BlockExamples
+pub mod BlockPlaces
 pub mod Blocks
 pub mod ByName
 pub mod Calls
 pub mod Constants
 pub mod Declarations
 pub mod Declared
+pub mod ExprPlaces
 pub mod FormExamples
 pub mod Formals
 pub mod Forms
@@ -17,6 +19,8 @@ pub mod Meanings
 pub mod Noted
 pub mod OneAnswer
 pub mod Passing
+pub mod PlacesAllowed
+pub mod PlacesKept
 pub mod Plans
 pub mod Quotes
 pub mod Reaching
@@ -27,6 +31,7 @@ pub mod Routines
 pub mod SmallTrees
 pub mod StatementExamples
 pub mod StatementForms
+pub mod StatementPlaces
 pub mod Statements
 pub mod Turns
 pub mod Writes

@@ -15,6 +15,7 @@ use Rattle.pas_check.specs.declared.fault.Fault.TheVariants.{Broken}
 use Rattle.pas_check.specs.declared.fault.Rule.{Rule}
 use Rattle.pas_check.specs.declared.heading.Opened.{Opened}
 use Rattle.pas_check.specs.Accepted.{IsProgramOf}
+use Rattle.pas_check.specs.Hiding.{other_names}
 use Rattle.pas_check.specs.Blocks.{BlockMay, EndMay, IsFirstBroken, Planned, ProgramMay, RoutineMay, RoutinesMay, Standing, block_built, begins, ends, forward_read, goes_on, in_block, in_routines, is_word, no_more, not_begun, not_ended, not_opened, nothing_waits, opened, planned_in, standing, stops_in, to_end, whole_block}
 use Rattle.pas_check.specs.Outcome.{Outcome}
 use Rattle.pas_check.specs.Sight.{Sight}
@@ -22,10 +23,10 @@ use Rattle.pas_check.specs.Stage.{Stage}
 
 -- ---- the end of a block
 
-ended_alike : (s : Stage) (b : Block) (w v : Sight) (x y : List Statement × Built) → w ≡ v → x ≡ y → ◌≡◌ {A = Outcome Stage} (Ok (record { seen = w; built = block_built s.built.frame b x.0 x.1 })) (Ok (record { seen = v; built = block_built s.built.frame b y.0 y.1 }))
-ended_alike s b w v x y seen built =
-    ap (λ (h : Sight). Ok (record { seen = h; built = block_built s.built.frame b x.0 x.1 })) seen
-    ∙ ap (λ (z : List Statement × Built). Ok (record { seen = v; built = block_built s.built.frame b z.0 z.1 })) built
+ended_alike : (s : Stage) (names : List Span) (b : Block) (w v : Sight) (x y : List Statement × Built) → w ≡ v → x ≡ y → ◌≡◌ {A = Outcome Stage} (Ok (record { seen = w; built = block_built s.built.frame names b x.0 x.1 })) (Ok (record { seen = v; built = block_built s.built.frame names b y.0 y.1 }))
+ended_alike s names b w v x y seen built =
+    ap (λ (h : Sight). Ok (record { seen = h; built = block_built s.built.frame names b x.0 x.1 })) seen
+    ∙ ap (λ (z : List Statement × Built). Ok (record { seen = v; built = block_built s.built.frame names b z.0 z.1 })) built
 
 one_end : (s : Stage) (p : Opened) (b : Block) (text : List ℕ) (t : Stage) {o u : Outcome Stage} → EndMay s p b text t o → EndMay s p b text t u → o ≡ u
 one_end s p b text t (not_ended {f = f} e) (not_ended {f = g} d) = let same : f ≡ g = cc in ap Err same
@@ -34,7 +35,7 @@ one_end s p b text t (ends e form last) (not_ended d) = absurd (cc)
 one_end s p b text t (ends {w = w} {x = x} e form last) (ends {w = v} {x = y} d other end) =
     let seen : w ≡ v = cc in
     let built : x ≡ y = cc in
-    ended_alike s b w v x y seen built
+    ended_alike s (other_names t.seen.text b) b w v x y seen built
 
 -- ---- the body of a routine
 

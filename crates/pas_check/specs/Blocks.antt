@@ -42,6 +42,7 @@ use Rattle.pas_check.specs.Control.{all_assigned, all_threatened}
 use Rattle.pas_check.specs.Built.{frame_of, nothing_built, with_routine}
 use Rattle.pas_check.specs.Declarations.{const_declared, led_by, type_declared, var_declared}
 use Rattle.pas_check.specs.Headings.{heading_read, inside, outside}
+use Rattle.pas_check.specs.Hiding.{other_names}
 use Rattle.pas_check.specs.Labels.{Kept, Labelled, placed_in, unlabelled}
 use Rattle.pas_check.specs.Names.{Name, Names, ended, name_at, noted_all, spelling}
 use Rattle.pas_check.specs.Outcome.{Outcome, ◌>>=◌, each, unless}
@@ -247,15 +248,15 @@ abbrev pub statement_of : Block → List statement.Statement → statement.State
 statement_of b statements = roll-Statement (record { at = (out-Block b).begin.start; label = None; asserts = []; body = body.Begin statements (out-Block b).end.start })
 
 -- the routine of the block is built, and the one around it is at hand again
-abbrev pub block_built : Frame → Block → List statement.Statement → Built → Built
-block_built around b statements built = with_routine built.frame (statement_of b statements) (record built { frame = around })
+abbrev pub block_built : Frame → List Span → Block → List statement.Statement → Built → Built
+block_built around names b statements built = with_routine built.frame names (statement_of b statements) (record built { frame = around })
 
 -- From the statement part on, where the walk stands before it, of a block that began at a stage: the fault of the first rule that is
 -- broken, or the routine of the block, which is the one of its number.
 pub data EndMay (s : Stage) (p : Opened) (b : Block) (text : List ℕ) (t : Stage) : Outcome Stage → Type 0 where
   not_ended : {f : Fault} → block_ended s.seen p b text t.seen ≡ Err f → EndMay s p b text t (Err f)
   ends : {w : Sight} {x : List statement.Statement × Built} → block_ended s.seen p b text t.seen ≡ Ok w → sequence_form t.seen (out-Block b).body t.built ≡ Some x → x.1.frame.routine ≡ length x.1.routines
-      → EndMay s p b text t (Ok (record { seen = w; built = block_built s.built.frame b x.0 x.1 }))
+      → EndMay s p b text t (Ok (record { seen = w; built = block_built s.built.frame (other_names t.seen.text b) b x.0 x.1 }))
 
 -- what the walk keeps of what is around the block
 abbrev pub outer_of : Stage → Outer

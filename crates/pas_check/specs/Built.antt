@@ -75,12 +75,12 @@ listed (Some n) = n ∷ []
 abbrev pub variables_in : Frame → List ℕ
 variables_in f = f.formals ++ (f.locals ++ (listed f.result ++ (f.slots ++ f.bounds)))
 
--- the routine of a block that has ended
-abbrev pub finished : Frame → Statement → Routine
-finished f body = record { name = f.name; parent = f.parent; level = f.level; formals = f.formals; vars = variables_in f; result = f.result; body = body }
+-- the routine of a block that has ended, with the names that it declares beside its variables
+abbrev pub finished : Frame → List Span → Statement → Routine
+finished f names body = record { name = f.name; parent = f.parent; level = f.level; names = names; formals = f.formals; vars = variables_in f; result = f.result; body = body }
 
-abbrev pub with_routine : Frame → Statement → Built → Built
-with_routine f body b = record b { routines = b.routines ++ finished f body ∷ [] }
+abbrev pub with_routine : Frame → List Span → Statement → Built → Built
+with_routine f names body b = record b { routines = b.routines ++ finished f names body ∷ [] }
 
 -- nothing is built so far, and a block is at hand
 abbrev pub nothing_built : Frame → Built

@@ -171,14 +171,6 @@ unfoldable pub threatened : Sight → Option Variable → ℕ → Outcome (Unit 
 threatened v None at = Ok tt
 threatened v (Some x) at = unless (is_threat v.level v.looping x) rule.Control at (Ok tt)
 
--- the variable that a name without subscripts and actuals is
-unfoldable pub variable_by : Sight → Meaning → ℕ → Outcome Place
-variable_by v (means.Variable x) at = Ok (record { of_type = x.of_type; itself = Some x })
-variable_by v (means.Constant c) at = Err (Broken rule.VarActual at)
-variable_by v (means.Routine head true) at = Err (Broken rule.VarActual at)
-variable_by v (means.Required f) at = Err (Broken rule.VarActual at)
-variable_by v _ at = Err (Broken rule.Kind at)
-
 -- ---- actuals
 
 abbrev pub expression_by : Result Found ℕ → Outcome Found
@@ -337,6 +329,20 @@ unfoldable pub call_by : Sight → Meaning → ℕ → List Given → Outcome Ty
 call_by v (means.Routine head true) at actuals = function_call v head at actuals
 call_by v (means.Required f) at actuals = required_call f at actuals
 call_by v _ at actuals = Err (Broken rule.Kind at)
+
+-- The rule that a function without actuals breaks in the place of a variable: it is none. Where it has formals, the number of its
+-- actuals is wrong too, which has the lower code.
+abbrev pub function_alone : Option Call → Rule
+function_alone None = rule.VarActual
+function_alone (Some c) = if is_other_count c.formals 0 then rule.ActualCount else rule.VarActual
+
+-- The variable that a name without subscripts and actuals is. Each required function takes an actual.
+unfoldable pub variable_by : Sight → Meaning → ℕ → Outcome Place
+variable_by v (means.Variable x) at = Ok (record { of_type = x.of_type; itself = Some x })
+variable_by v (means.Constant c) at = Err (Broken rule.VarActual at)
+variable_by v (means.Routine head true) at = Err (Broken (function_alone (callee_at v head)) at)
+variable_by v (means.Required f) at = Err (Broken rule.ActualCount at)
+variable_by v _ at = Err (Broken rule.Kind at)
 
 -- a constant or a variable, which stands without actuals
 unfoldable pub alone_by : Sight → Meaning → Option TypeOf

@@ -11,6 +11,7 @@ pub mod FirstFault
 pub mod Formals
 pub mod Forms
 pub mod Headings
+pub mod Hiding
 pub mod Labels
 pub mod Names
 pub mod Outcome
@@ -19,6 +20,7 @@ pub mod Plans
 pub mod Routine
 pub mod Rules
 pub mod Sight
+pub mod Spans
 pub mod Statement
 pub mod Stage
 pub mod StatementForms

@@ -3,7 +3,7 @@
 ghost use Rattle.std.specs.Prelude.{◌≡◌, [], ◌∷◌, ◌++◌, IfErr, IfOk, OnOk, Some, map};
 ghost use Rattle.pas_tree.specs.declared.expr.ActualValue.TheVariants as actual_value;
 ghost use Rattle.pas_check.specs.Expr as spec;
-ghost use Rattle.pas_check.specs.Expr.{all_passed, expression_by, formals_at, found, given, place_of};
+ghost use Rattle.pas_check.specs.Expr.{all_passed, callee_at, expression_by, formals_at, found, given, place_of};
 ghost use Rattle.pas_check.specs.Forms.{all_passed_form, alone_meant, expr_form, expression_form, given_form, passed_by_value_form, passed_by_var_form, passed_form, passed_to_form};
 ghost use Rattle.pas_check.specs.Outcome.{Gives, IsMemory};
 ghost use Rattle.pas_check.specs.Sight.{sight};
@@ -195,9 +195,23 @@ impl<'t> Seen<'t> {
         match meaning {
             Meaning::Variable(variable) => Ok(self.alone(variable, name)),
             Meaning::Constant(_) => Err(Rule::VarActual.broken(name.start)),
-            Meaning::Routine { function: true, .. } => Err(Rule::VarActual.broken(name.start)),
-            Meaning::Required(_) => Err(Rule::VarActual.broken(name.start)),
+            Meaning::Routine {
+                head,
+                function: true,
+            } => Err(self.function_alone(head).broken(name.start)),
+            Meaning::Required(_) => Err(Rule::ActualCount.broken(name.start)),
             _ => Err(Rule::Kind.broken(name.start)),
+        }
+    }
+
+    /// The rule that a function without actuals breaks in the place of a variable: where it has formals, that of their
+    /// number, which has the lower code.
+    fn function_alone(&self, head: usize) -> Rule
+        ensures { result ≡ spec.function_alone (callee_at (sight self.now) head) }
+    {
+        match self.callee(head) {
+            Some(callee) if callee.formals != 0 => Rule::ActualCount,
+            _ => Rule::VarActual,
         }
     }
 

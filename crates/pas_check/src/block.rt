@@ -140,9 +140,10 @@ impl<'t> Checker<'t> {
         ensures value { (s : Stage) → (p : Begun) → (text : List ℕ) → outer ≡ outer_of s → p.result ≡ function → lacking_by lacking ≡ bodies_given text (out-Block block.now).routines
             → Meets (λ u. stage self.new) (EndMay s p block.now text (stage self.old)) result }
     {
+        let names = self.seen.other_names(&mut self.made.lower, block)?;
         let body = self.statement_part(block.body.as_slice())?;
         self.end_allowed(block, function, lacking)?;
-        self.leave(outer, statement_of(self.seen.alloc, block, body))
+        self.leave(outer, names, statement_of(self.seen.alloc, block, body))
     }
 
     /// The statement part of a block.
@@ -177,17 +178,21 @@ impl<'t> Checker<'t> {
 
     /// Leaves a block for what is around it.
     #[tactic(auto, unfolding(crate::specs::Sight::sight))]
-    fn leave(&mut self, outer: Outer, body: Statement) -> Result<(), Fault>
+    fn leave(&mut self, outer: Outer, names: Items<Span>, body: Statement) -> Result<(), Fault>
         ensures left { OnOk result (sight self.new.seen ≡ record (outside (sight self.old.seen)) { level = outer.level }) }
         ensures number { OnOk result (self.old.made.built.frame.routine ≡ length self.old.made.built.routines) }
-        ensures built { OnOk result (self.new.made.built ≡ with_routine self.old.made.built.frame body (record self.old.made.built { frame = outer.frame })) }
+        ensures built { OnOk result (self.new.made.built ≡ with_routine self.old.made.built.frame names body (record self.old.made.built { frame = outer.frame })) }
         ensures memory { IfErr result IsMemory }
     {
         let Outer { frame, level } = outer;
         let _names = self.pop_scope(0);
         self.seen.level = level;
         let done = mem::replace(&mut self.made.built.frame, frame);
-        match self.made.built.add_routine(self.seen.alloc, done, body) {
+        match self
+            .made
+            .built
+            .add_routine(self.seen.alloc, done, names, body)
+        {
             Ok(()) => Ok(()),
             Err(error) => Err(Fault::Memory(error)),
         }

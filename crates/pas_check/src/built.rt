@@ -93,20 +93,21 @@ impl Built {
         Ok(number)
     }
 
-    /// The routine of a block that has ended, with this body.
+    /// The routine of a block that has ended, with the names that it declares beside its variables, and its body.
     pub fn add_routine(
         &mut self,
         alloc: Global,
         done: Frame,
+        names: Items<Span>,
         body: Statement,
     ) -> Result<(), AllocError>
         ensures number { OnOk result (done.routine ≡ length self.old.routines) }
-        ensures built { OnOk result (self.new ≡ with_routine done body self.old) }
+        ensures built { OnOk result (self.new ≡ with_routine done names body self.old) }
     {
         // Its calls are made with the number that was planned for it.
         if self.routines.len() != done.routine as usize {
             return Err(AllocError);
         }
-        self.routines.push(done.finish(alloc, body)?)
+        self.routines.push(done.finish(alloc, names, body)?)
     }
 }

@@ -1,4 +1,5 @@
 ghost use Rattle.std.specs.Prelude.{◌≡◌, ℕ, [], IfErr, IfOk, length, map, true};
+ghost use Rattle.pas_program.specs.Places.{LiesIn};
 ghost use Rattle.pas_check.specs.Accepted.{IsProgramOf};
 ghost use Rattle.pas_check.specs.Blocks.{IsSound, IsSoundFault, all_ended, at_first, program_start, required};
 ghost use Rattle.pas_check.specs.Built.{nothing_built};
@@ -7,6 +8,7 @@ ghost use Rattle.pas_check.specs.Headings.{inside};
 ghost use Rattle.pas_check.specs.Labels.{labelled, unlabelled};
 ghost use Rattle.pas_check.specs.Outcome.{IsMemory};
 ghost use Rattle.pas_check.specs.Sight.{sight};
+ghost use Rattle.pas_check.specs.Spans.{tree_within};
 ghost use Rattle.pas_check.specs.Stage.{stage};
 
 use crate::built::Built;
@@ -40,6 +42,9 @@ pub fn check(alloc: Global, text: &[u8], tree: &Tree) -> Result<Program, CheckFa
     ensures fault { IfErr result (λ e. IsWithin (length text.now) e) }
     ensures sound { IfErr result (λ e. IsSound text.now tree.now e) }
     ensures program { IfOk result (λ p. IsProgramOf text.now tree.now p) }
+
+    // Where the spans of the tree are pieces of a text of so many bytes, all places and spans of the program lie in it.
+    ensures places { (len : ℕ) → tree_within len tree.now ≡ true → IfOk result (λ p. LiesIn len p) }
 {
     match checked(alloc, text, tree) {
         Ok(program) => Ok(program),

@@ -74,9 +74,14 @@ impl Frame {
         Ok(Items::from_vec(vars))
     }
 
-    /// The routine with this body.
-    pub fn finish(self, alloc: Global, body: Statement) -> Result<Routine, AllocError>
-        ensures { IfOk result (λ r. r ≡ finished self body) }
+    /// The routine with this body, whose block declares these names beside its variables.
+    pub fn finish(
+        self,
+        alloc: Global,
+        names: Items<Span>,
+        body: Statement,
+    ) -> Result<Routine, AllocError>
+        ensures { IfOk result (λ r. r ≡ finished self names body) }
     {
         let vars = self.variables(alloc)?;
         let Frame {
@@ -94,6 +99,7 @@ impl Frame {
             name,
             parent,
             level,
+            names,
             formals,
             vars,
             result: returned,

@@ -1,12 +1,14 @@
 //! Laws of the rules as a whole: a tree has at most one answer, be it the first rule that it breaks or a program.
 
-ghost use Rattle.std.specs.Prelude.{◌≡◌, ℕ, List};
+ghost use Rattle.std.specs.Prelude.{◌≡◌, ℕ, List, true};
 ghost use Rattle.pas_program.specs.declared.program.Program.{Program};
+ghost use Rattle.pas_program.specs.Places.{LiesIn};
 ghost use Rattle.pas_tree.specs.declared.block.Tree.{Tree};
 ghost use Rattle.pas_check.specs.declared.fault.Rule.{Rule};
 ghost use Rattle.pas_check.specs.Accepted.{IsProgramOf};
 ghost use Rattle.pas_check.specs.Blocks.{IsFirstBroken, ProgramMay};
 ghost use Rattle.pas_check.specs.Outcome.{Outcome};
+ghost use Rattle.pas_check.specs.Spans.{tree_within};
 ghost use Rattle.pas_check.specs.Stage.{Stage};
 
 /// A law: a tree has at most one answer, which is the fault of the first rule that it breaks or where the walk stands after it.
@@ -31,4 +33,10 @@ pub fn a_tree_has_one_program()
     ensures vars { (text : List ℕ) (tree : Tree) (p q : Program) → IsProgramOf text tree p → IsProgramOf text tree q → p.vars ≡ q.vars }
     ensures routines { (text : List ℕ) (tree : Tree) (p q : Program) → IsProgramOf text tree p → IsProgramOf text tree q → p.routines ≡ q.routines }
     ensures asserts { (text : List ℕ) (tree : Tree) (p q : Program) → IsProgramOf text tree p → IsProgramOf text tree q → p.asserts ≡ q.asserts }
+{}
+
+/// A law: where the spans of a tree are pieces of a text of so many bytes, so are the spans of its program, and each place of the program
+/// is that of a byte of the text.
+pub fn places_lie_in_the_text()
+    ensures { (len : ℕ) (text : List ℕ) (tree : Tree) (p : Program) → tree_within len tree ≡ true → IsProgramOf text tree p → LiesIn len p }
 {}

@@ -17,6 +17,7 @@ mod expr;
 mod fault;
 mod frame;
 mod heading;
+mod hiding;
 mod label;
 mod laws;
 mod meaning;
@@ -36,7 +37,7 @@ pub use fault::CheckFault;
 pub use label::places_say_the_same_as_paths;
 pub use laws::{
     a_fault_and_a_program_exclude_each_other, a_tree_has_one_answer, a_tree_has_one_first_fault,
-    a_tree_has_one_program,
+    a_tree_has_one_program, places_lie_in_the_text,
 };
 pub use names::names_mean_by_the_rules;
 

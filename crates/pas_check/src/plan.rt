@@ -327,7 +327,8 @@ impl<'t> Seen<'t> {
         Ok(())
     }
 
-    fn note_routines(
+    /// Takes note of the names of headings.
+    pub fn note_routines(
         &self,
         lower: &mut Vec<u8>,
         declared: &mut Names,

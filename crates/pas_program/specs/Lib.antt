@@ -2,6 +2,8 @@ pub mod Checked
 pub mod Each
 pub mod Labels
 pub mod Order
+pub mod Places
+pub mod Rising
 pub mod Scopes
 pub mod Size
 pub mod Tables

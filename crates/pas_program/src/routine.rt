@@ -11,6 +11,9 @@ pub struct Routine {
     pub parent: Option<u32>,
     /// How many routines are around it.
     pub level: u32,
+    /// The names of the constants, types and routines that its block declares, in the order of the text. A routine is named
+    /// where it is declared, not again where the body of its `forward` heading stands.
+    pub names: Items<Span>,
     /// Its parameters, in order.
     pub formals: Items<u32>,
     /// All its variables: the parameters, those of its variable part, the result, and the hidden ones for calls and then

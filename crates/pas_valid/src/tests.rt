@@ -19,6 +19,7 @@ fn block(alloc: Global, level: u32) -> Result<Items<Routine>, AllocError> {
         name: Span { start: 8, end: 9 },
         parent: None,
         level,
+        names: Items::new(alloc),
         formals: Items::new(alloc),
         vars: Items::new(alloc),
         result: None,
