@@ -69,10 +69,10 @@ binary_faults binary.Ge l r at = refl
 -- ---- expressions
 
 module _ (t : Tables) where
-  first_is : (e : Expr) → (checked_expr t e).first ≡ (out-Expr e).first
+  pub first_is : (e : Expr) → (checked_expr t e).first ≡ (out-Expr e).first
   first_is e = ap (λ (w : Checked). w.first) (fold_out-Expr (Unit {0}) Faults Checked Checked (λ a. tt) (checking.form_step t) (checking.access_step t) checking.expr_step e)
 
-  name_is : (a : Access) → (checked_access t a).first ≡ (out-Access a).at
+  pub name_is : (a : Access) → (checked_access t a).first ≡ (out-Access a).at
   name_is a = ap (λ (w : Checked). w.first) (fold_out-Access (Unit {0}) Faults Checked Checked (λ a. tt) (checking.form_step t) (checking.access_step t) checking.expr_step a)
 
   abbrev OfExpr : Expr → Type 0

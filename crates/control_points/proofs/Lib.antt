@@ -1,3 +1,5 @@
+pub mod ActionPlaces
+pub mod Alone
 pub mod Asserted
 pub mod Blocks
 pub mod CallsOf
@@ -7,6 +9,7 @@ pub mod Drawn
 pub mod EdgeExamples
 pub mod Examples
 pub mod Exits
+pub mod ExprPlaces
 pub mod FirstDifferent
 pub mod Fitting
 pub mod Followed
@@ -42,11 +45,14 @@ pub mod PathsParts
 pub mod PathsRoutines
 pub mod PathsStatements
 pub mod PathsWhole
+pub mod PlaceExamples
 pub mod Pointed
 pub mod RisingSteps
 pub mod Scened
+pub mod SitePlaces
 pub mod Sized
 pub mod Sizes
+pub mod StatementPlaces
 pub mod ValidActions
 pub mod ValidBasics
 pub mod ValidCallers

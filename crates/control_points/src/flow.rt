@@ -1,4 +1,4 @@
-ghost use Rattle.std.specs.Prelude.{◌≡◌, ◌<◌, length, slice_get, suc};
+ghost use Rattle.std.specs.Prelude.{◌≡◌, ◌<◌, ◌^◌, length, slice_get, suc};
 ghost use Rattle.control_points.specs.Chart.{leaving, arriving};
 ghost use Rattle.control_points.specs.Exact.{IsExact};
 ghost use Rattle.control_points.specs.Fits.{PointsFit, EdgesFit, CallsReturn, ChecksFit, AssertsFit, EdgesListed};
@@ -36,6 +36,8 @@ pub struct Flow {
     pub ghost exits_return: { ExitsReturn points edges },
     pub ghost exact: { IsExact program points asserts edges checks },
     pub ghost edges_listed: { EdgesListed points edges outgoing incoming },
+    pub ghost points_few: { length points < 2 ^ 32 },
+    pub ghost edges_few: { length edges < 2 ^ 32 },
 }
 
 /// Each takes constant time, but for `checks_at`.

@@ -1,5 +1,6 @@
 //! Laws of the checks: which part each of them judges. Each is the contract of a function without a body.
 ghost use Rattle.std.specs.Prelude.{◌≡◌, ℕ, ◌+◌, ◌<◌, length, slice_get, Some};
+ghost use Rattle.pas_program.specs.Rising.{PlacesRise};
 ghost use Rattle.control_points.specs.declared.check.Check.{Check};
 ghost use Rattle.control_points.specs.declared.edge.Act.{Act};
 ghost use Rattle.control_points.specs.declared.flow.Flow.{Flow};
@@ -28,4 +29,9 @@ pub fn each_check_is_judged()
 /// Each judgement of a point has its check, at its rank among the checks of the point.
 pub fn each_judgement_has_a_check()
     ensures { (f : Flow) (p i : ℕ) (j : Judgement) → p < length f.points → slice_get (point_judgements (chart_of f) p) i ≡ Some j → slice_get f.checks (first_check f.checks p + i) ≡ Some (check_of p (fault_of j)) }
+{}
+
+/// Where the places of a program rise, two checks of one point and one kind have different places.
+pub fn checks_of_a_kind_differ_in_place()
+    ensures { (f : Flow) (j k : ℕ) (d e : Check) → PlacesRise f.program.routines f.program.asserts → slice_get f.checks j ≡ Some d → slice_get f.checks k ≡ Some e → d.point ≡ e.point → d.kind ≡ e.kind → d.at ≡ e.at → j ≡ k }
 {}

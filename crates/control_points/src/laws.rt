@@ -1,5 +1,5 @@
 //! Laws of the definitions. Each is the contract of a function without a body.
-ghost use Rattle.std.specs.Prelude.{◌≡◌, ℕ, ◌<◌, ◌≤◌, ◌↔◌, true, false, List, length, ℤ, Some, None, Ok};
+ghost use Rattle.std.specs.Prelude.{◌≡◌, ℕ, ◌<◌, ◌≤◌, ◌↔◌, true, false, List, [], ◌∷◌, length, slice_get, ℤ, Some, None, Ok};
 ghost use Rattle.pas_program.specs.declared.expr.Access.{Access};
 ghost use Rattle.pas_program.specs.declared.expr.Expr.{Expr};
 ghost use Rattle.pas_program.specs.Each.{each_access, each_expr};
@@ -7,6 +7,7 @@ ghost use Rattle.pas_program.specs.Scopes.{scope_rule};
 ghost use Rattle.pas_program.specs.Tables.{is_visible};
 ghost use Rattle.pas_program.specs.Typed.{hosted, reached};
 ghost use Rattle.pas_program.specs.Types.{in_host};
+ghost use Rattle.control_points.specs.declared.edge.Edge.{Edge};
 ghost use Rattle.control_points.specs.declared.fault.Fault.{Fault};
 ghost use Rattle.control_points.specs.declared.flow.Flow.{Flow};
 ghost use Rattle.control_points.specs.declared.item.Item.{Item};
@@ -14,7 +15,7 @@ ghost use Rattle.control_points.specs.Actions.{view};
 ghost use Rattle.control_points.specs.Chart.{Chart, leaving};
 ghost use Rattle.control_points.specs.Evaluation.{Spot, spot, value};
 ghost use Rattle.control_points.specs.Finding.{frame_at};
-ghost use Rattle.control_points.specs.Fits.{routine_at};
+ghost use Rattle.control_points.specs.Fits.{callee_of, routine_at};
 ghost use Rattle.control_points.specs.Flows.{chart_of};
 ghost use Rattle.control_points.specs.Foreseen.{IsForeseen};
 ghost use Rattle.control_points.specs.Leading.{IsAtEnd, IsCase};
@@ -33,6 +34,11 @@ pub fn earlier_is_on_the_way()
 /// The chart of a flow is well formed.
 pub fn flows_are_well_formed()
     ensures { (f : Flow) → IsWellFormed (chart_of f) }
+{}
+
+/// The edge of a call is the only one that leaves its point: where a run stands there, the next step is this call or its error.
+pub fn a_call_leaves_its_point_alone()
+    ensures { (f : Flow) (k r : ℕ) (e : Edge) → slice_get f.edges k ≡ Some e → callee_of e.act ≡ Some r → leaving f.edges e.from ≡ k ∷ [] }
 {}
 
 /// A run begins in a valid state.

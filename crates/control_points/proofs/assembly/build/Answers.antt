@@ -1,5 +1,6 @@
 use Rattle.std.proofs.Common.{◌≡◌, length, sym, ap, subst, ◌∙◌, Some, arith}
 use Rattle.std.specs.List.{slice_get}
+use Rattle.std.proofs.lemmas.List.{length-map}
 use Rattle.control_points.specs.Chart.{arriving, leaving}
 use Rattle.control_points.specs.Fits.{AssertsFit, ChecksFit, PointsFit}
 use Rattle.control_points.specs.Leading.{EntriesFit}
@@ -69,4 +70,6 @@ invariant_of-result c =
         leaving = λ q h. c.in_ok-outgoing.ensures q (omega (arith, h, c.len-count.ensures)) ∙ ap (λ es. Some (leaving es q)) c.as_slice-4.ensures;
         arriving = λ q h. c.in_ok-incoming.ensures q (omega (arith, h, c.len-count.ensures)) ∙ ap (λ es. Some (arriving es q)) c.as_slice-5.ensures;
       };
+      points_few = omega (arith, n.few, ap length points_are, length-map n.marks (λ m. m.point));
+      edges_few = c.in_ok-graph.graph.few;
     }
