@@ -1,0 +1,11 @@
+pub mod Calls
+pub mod Cells
+pub mod Classes
+pub mod Denotation
+pub mod Distinct
+pub mod Kept
+pub mod Outlines
+pub mod Passings
+pub mod Ranks
+pub mod Storage
+pub mod Tables
