@@ -1,0 +1,8 @@
+use Rattle.std.proofs.Common.{◌≡◌, [], map}
+use Rattle.std.specs.List.{range_with_len}
+use Rattle.activations.specs.Calls.{points_of}
+use Rattle.activations.specs.Parts.{lists_of}
+use Rattle.activations.proofs.routines.RoutinePoints.none.Given as goal
+
+abbrev pub invariant-loop : goal.invariant-loop
+invariant-loop l = lists_of l.lists.items ≡ map (points_of []) (range_with_len 0 l.counter)

@@ -1,0 +1,14 @@
+pub mod Calls
+pub mod Unfolding
+pub mod Arcs
+pub mod Silence
+pub mod Drawn
+pub mod Parts
+pub mod Listed
+pub mod Kept
+pub mod Walks
+pub mod Found
+pub mod Marks
+pub mod Distinct
+pub mod Passed
+pub mod Outside
