@@ -6,6 +6,7 @@ mod graph;
 mod large;
 mod running;
 mod steps;
+mod unfolding;
 mod words;
 
 use crate::status::Status;
