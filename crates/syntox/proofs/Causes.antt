@@ -1,5 +1,5 @@
 -- What an answer says of the file, the input and the sinks.
-use Rattle.std.proofs.Common.{◌≡◌, ◌≢◌, ◌⊎◌, inl, inr, ℕ, List, Option, None, refl, sym, ap, subst, ◌∙◌, codes}
+use Rattle.std.proofs.Common.{◌≡◌, ◌≢◌, ◌⊎◌, inl, inr, ℕ, List, Option, None, refl, sym, subst, ◌∙◌, codes}
 use Rattle.px_base.specs.Bytes.{Adds}
 use Rattle.px_base.specs.Faults.{Rose}
 use Rattle.interp.specs.declared.running.Ending.{Ending}
@@ -13,7 +13,7 @@ use Rattle.syntox.specs.Lines.{large_input_line, max_input, refusal_line, unread
 use Rattle.syntox.specs.Lines as lines
 use Rattle.syntox.specs.Running.{IsFaultless, IsLargeInput, IsRun, IsRunStatus, TellsFault, status_of}
 use Rattle.syntox.specs.Running as running
-use Rattle.syntox.specs.Sinks.{Delivers, Moment, Sinks, Takes}
+use Rattle.syntox.specs.Sinks.{Delivers, Sinks, Spares, Takes}
 use Rattle.syntox.specs.declared.due.Stream.{Stream}
 use Rattle.syntox.specs.declared.due.Stream.TheVariants.{Answers, Complaints}
 use Rattle.syntox.specs.declared.status.Status.{Status}
@@ -206,15 +206,19 @@ err_has_none (due.run (running.faulty tells)) t = t
 err_has_none (due.run (running.unread none (lines.unreadable rose))) t = t
 err_has_none (due.run (running.large none more)) t = t
 
-module _ (o : Outside) (s : Sinks) (asked : Option Asked) (text : List ℕ) (meant status : Status) where
-  pub out_kept : (to : Stream) → IsDue o asked to text meant → Delivers to text meant s status
-      → status ≢ Done → status ≢ RunError → status ≢ OutOfSteps → status ≢ WriteFault → s.out_after.taken ≡ s.out_before.taken
-  out_kept Complaints is delivered a b c d = ap (λ (m : Moment). m.taken) delivered.1
-  out_kept Answers is (inl (e, adds), kept) a b c d = absurd (one_of status (subst IsText (sym e) (out_has_text is)) a b c)
-  out_kept Answers is (inr (e, rose, prefix), kept) a b c d = absurd (d e)
+module _ (o : Outside) (s : Sinks) (asked : Option Asked) (text : List ℕ) (meant status : Status) (out err : Type 0) where
+  pub out_kept : (to : Stream) → IsDue o asked to text meant → Delivers to text meant s status → Spares to out err
+      → status ≢ Done → status ≢ RunError → status ≢ OutOfSteps → status ≢ WriteFault → out
+  out_kept Complaints is delivered spared a b c d = spared
+  out_kept Answers is (inl (e, adds), kept) spared a b c d = absurd (one_of status (subst IsText (sym e) (out_has_text is)) a b c)
+  out_kept Answers is (inr (e, rose, prefix), kept) spared a b c d = absurd (d e)
 
-  pub err_kept : (to : Stream) → IsDue o asked to text meant → Delivers to text meant s status
-      → (status ≡ Done) ⊎ ((status ≡ RunError) ⊎ (status ≡ OutOfSteps)) → s.err_after.taken ≡ s.err_before.taken
-  err_kept Answers is delivered one = ap (λ (m : Moment). m.taken) delivered.1
-  err_kept Complaints is (inl (e, adds), kept) one = absurd (err_has_none is (subst IsText e (text_of_one status one)))
-  err_kept Complaints is (inr (e, rose, prefix), kept) one = absurd (no_cut status (text_of_one status one) e)
+  pub err_kept : (to : Stream) → IsDue o asked to text meant → Delivers to text meant s status → Spares to out err
+      → (status ≡ Done) ⊎ ((status ≡ RunError) ⊎ (status ≡ OutOfSteps)) → err
+  err_kept Answers is delivered spared one = spared
+  err_kept Complaints is (inl (e, adds), kept) spared one = absurd (err_has_none is (subst IsText e (text_of_one status one)))
+  err_kept Complaints is (inr (e, rose, prefix), kept) spared one = absurd (no_cut status (text_of_one status one) e)
+
+pub one_kept : (to : Stream) (out err : Type 0) → Spares to out err → out ⊎ err
+one_kept Answers out err spared = inr spared
+one_kept Complaints out err spared = inl spared

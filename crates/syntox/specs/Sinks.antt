@@ -41,6 +41,11 @@ abbrev pub Delivers : Stream → List ℕ → Status → Sinks → Status → Ty
 Delivers Answers text meant s status = Says meant s.out_before s.out_after text status × (s.err_after ≡ s.err_before)
 Delivers Complaints text meant s status = Says meant s.err_before s.err_after text status × (s.out_after ≡ s.out_before)
 
+-- The sink to which nothing is due is as it was, whole: what is said of `out` holds, or what is said of `err`.
+abbrev pub Spares : Stream → Type 0 → Type 0 → Type 0
+Spares Answers out err = err
+Spares Complaints out err = out
+
 -- A sink has taken a text of which this holds.
 abbrev pub Takes : Option (List ℕ) → Option (List ℕ) → (List ℕ → Type 0) → Type 0
 Takes before after P = (text : List ℕ) × P text × Adds before after text

@@ -1,5 +1,5 @@
 //! The command `analyse`.
-ghost use Rattle.std.specs.Prelude.{◌≡◌, ◌≤◌, ◌⊎◌, Some, length, IfOk};
+ghost use Rattle.std.specs.Prelude.{◌≡◌, ◌≤◌, ◌↔◌, ◌⊎◌, ℕ, List, Some, length, IfOk};
 ghost use Rattle.syntox.specs.Analysis.{IsAnalysed};
 ghost use Rattle.syntox.specs.Lines.{IsUnreadable, max_source, refusal_line};
 
@@ -42,9 +42,11 @@ fn text_of(alloc: Global, file: &str, bytes: &[u8]) -> Result<Due, AllocError>
 /// What is due for the analysis of a file.
 pub fn analyse<P: Shelf>(alloc: Global, file: &str, shelf: &mut P) -> Result<Due, AllocError>
     requires { P.may_ask shelf.old file.now }
-    ensures { IfOk result (λ due.
+    ensures due { IfOk result (λ due.
         IsAnalysed file.now (P.file shelf.old file.now) due.to due.text.items due.status
         ⊎ IsUnreadable file.now (P.faults shelf.old) (P.faults shelf.new) due.to due.text.items due.status) }
+    ensures names { (n : List ℕ) → P.may_ask shelf.new n ↔ P.may_ask shelf.old n }
+    ensures files { (n : List ℕ) → P.file shelf.new n ≡ P.file shelf.old n }
 {
     match read_file(alloc, shelf, file, MAX_SOURCE) {
         Ok(bytes) => text_of(alloc, file, &bytes),

@@ -1,7 +1,7 @@
 //! What a command owes: a text for one of the two sinks, and the status once it was written whole.
 ghost use Rattle.std.specs.Prelude.{◌≡◌, IfOk};
 ghost use Rattle.syntox.specs.Lines.{line, unreadable_line, usage_line};
-ghost use Rattle.syntox.specs.Sinks.{Delivers, Says, at, sinks};
+ghost use Rattle.syntox.specs.Sinks.{Delivers, Says, Spares, at, sinks};
 
 use crate::command::USAGE;
 use crate::status::Status;
@@ -70,11 +70,12 @@ fn say<W: Sink>(sink: &mut W, text: &[u8], meant: Status) -> Status
     }
 }
 
-/// Writes what is due. Its status stands unless the sink fails.
+/// Writes what is due. Its status stands unless the sink fails. The other sink isn't called.
 pub fn deliver<O: Sink, E: Sink>(due: &Due, out: &mut O, err: &mut E) -> Status
-    ensures { Delivers due.now.to due.now.text.items due.now.status (sinks
+    ensures delivers { Delivers due.now.to due.now.text.items due.now.status (sinks
         (at (O.taken out.old) (O.faults out.old)) (at (O.taken out.new) (O.faults out.new))
         (at (E.taken err.old) (E.faults err.old)) (at (E.taken err.new) (E.faults err.new))) result }
+    ensures spares { Spares due.now.to (out.new ≡ out.old) (err.new ≡ err.old) }
 {
     match due.to {
         Stream::Answers => say(out, &due.text, due.status),

@@ -1,5 +1,5 @@
 //! The command `run`.
-ghost use Rattle.std.specs.Prelude.{◌≡◌, ◌≤◌, ◌⊎◌, ℕ, List, Some, length, IfOk};
+ghost use Rattle.std.specs.Prelude.{◌≡◌, ◌≤◌, ◌↔◌, ◌⊎◌, ℕ, List, Some, length, IfOk};
 ghost use Rattle.report.specs.Wording.{CanTell, fault_line};
 ghost use Rattle.syntox.specs.Lines.{IsUnreadable, max_input, max_source};
 ghost use Rattle.syntox.specs.Running.{IsFaultless, IsRun, IsRunDue, input_of, status_of};
@@ -116,6 +116,8 @@ pub fn run<P: Shelf, D: Source>(
         IsRunDue file.now (P.file shelf.old file.now) (input_of (D.left given.old) (D.faults given.old) (D.faults given.new)) steps
         due.to due.text.items due.status
         ⊎ IsUnreadable file.now (P.faults shelf.old) (P.faults shelf.new) due.to due.text.items due.status) }
+    ensures names { (n : List ℕ) → P.may_ask shelf.new n ↔ P.may_ask shelf.old n }
+    ensures files { (n : List ℕ) → P.file shelf.new n ≡ P.file shelf.old n }
     ensures given { (given.new ≡ given.old) ⊎ IsFaultless (P.file shelf.old file.now) }
 {
     match read_file(alloc, shelf, file, MAX_SOURCE) {

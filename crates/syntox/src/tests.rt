@@ -2,6 +2,7 @@
 //! the rules of the language.
 mod analysis;
 mod checking;
+mod drawn;
 mod graph;
 mod large;
 mod running;

@@ -1,5 +1,5 @@
 //! All that the program does, over any shelf, source and sinks.
-ghost use Rattle.std.specs.Prelude.{◌≡◌, ◌≢◌, ◌⊎◌, ◌≤◌, ℕ, List, length, codes, Ok, Some, None, IfOk, OnErr};
+ghost use Rattle.std.specs.Prelude.{◌≡◌, ◌≢◌, ◌↔◌, ◌⊎◌, ◌≤◌, ℕ, List, length, codes, Ok, Some, None, IfOk, OnErr};
 ghost use Rattle.px_base.specs.Bytes.{Adds};
 ghost use Rattle.px_base.specs.Faults.{Rose};
 ghost use Rattle.first_form.specs.declared.form.Form.{Form};
@@ -31,6 +31,8 @@ fn due_for<P: Shelf, D: Source>(
     ensures due { IfOk result (λ due. IsDue
         (outside (P.file shelf.old) (P.faults shelf.old) (P.faults shelf.new) (input_of (D.left given.old) (D.faults given.old) (D.faults given.new)))
         (asked words.now) due.to due.text.items due.status) }
+    ensures names { (n : List ℕ) → P.may_ask shelf.new n ↔ P.may_ask shelf.old n }
+    ensures files { (n : List ℕ) → P.file shelf.new n ≡ P.file shelf.old n }
     ensures given { (given.new ≡ given.old) ⊎ ForRun (asked words.now) (λ file steps. IsFaultless (P.file shelf.old file)) }
 {
     match command_of(words) {
@@ -104,12 +106,16 @@ pub fn top<P: Shelf, D: Source, O: Sink, E: Sink>(
         → IfOk result (λ status. IsRunStatus status
         ⊎ ((status ≡ Status.Refused) × Takes (E.taken err.old) (E.taken err.new) (TellsRule file bytes))) }
 
-    // What stays as it was. The input is read only for the run of a source without fault.
+    // What stays as it was: a sink to which nothing is written, with its count of faults, and what the shelf tells of files, so that
+    // this can be called again. The input is read only for the run of a source without fault.
     ensures out_kept { result ≢ Ok Status.Done → result ≢ Ok Status.RunError → result ≢ Ok Status.OutOfSteps → result ≢ Ok Status.WriteFault
-        → O.taken out.new ≡ O.taken out.old }
+        → out.new ≡ out.old }
     ensures err_kept { (result ≡ Ok Status.Done) ⊎ ((result ≡ Ok Status.RunError) ⊎ (result ≡ Ok Status.OutOfSteps))
-        → E.taken err.new ≡ E.taken err.old }
+        → err.new ≡ err.old }
+    ensures one_kept { (out.new ≡ out.old) ⊎ (err.new ≡ err.old) }
     ensures untouched { OnErr result ((out.new ≡ out.old) × (err.new ≡ err.old)) }
+    ensures names { (n : List ℕ) → P.may_ask shelf.new n ↔ P.may_ask shelf.old n }
+    ensures files { (n : List ℕ) → P.file shelf.new n ≡ P.file shelf.old n }
     ensures given { (given.new ≡ given.old) ⊎ ForRun (asked words.now) (λ file steps. IsFaultless (P.file shelf.old file)) }
 {
     a_text_has_one_covering();

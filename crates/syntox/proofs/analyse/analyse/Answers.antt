@@ -6,22 +6,22 @@ use Rattle.syntox.specs.Lines as lines
 use Rattle.syntox.specs.declared.status.Status.TheVariants.{ReadFault, Refused}
 use Rattle.syntox.proofs.analyse.analyse.Goals as goal
 
-pub returns-in-Ok : goal.returns-in-Ok
-returns-in-Ok g c =
+pub returns-in-Ok-clause-due : goal.returns-in-Ok-clause-due
+returns-in-Ok-clause-due g c =
     let file = c.args.file.now in
     analysed_read file c.in-Ok.bytes.items c.deref.result.now (g.P.Shelf.file c.args.shelf.now file) (g.P.Shelf.faults c.args.shelf.now) (g.P.Shelf.faults c.read_file.new.shelf)
     c.text_of.result c.in-Ok.ensures.bytes c.deref.ensures.value c.text_of.ensures
 
-pub returns-in-Err-TooLarge : goal.returns-in-Err-TooLarge
-returns-in-Err-TooLarge g c =
+pub returns-in-Err-TooLarge-clause-due : goal.returns-in-Err-TooLarge-clause-due
+returns-in-Err-TooLarge-clause-due g c =
     let file = c.args.file.now in
     lined (Analysed file (g.P.Shelf.file c.args.shelf.now file) (g.P.Shelf.faults c.args.shelf.now) (g.P.Shelf.faults c.read_file.new.shelf))
     (refusal_line file) Refused c.no_form.result
     (inl (analysis.no_form (too_large_has_none _ (c.in-Err-TooLarge.ensures.too_large (ap Err c.in-Err-TooLarge.field-0-is)))))
     c.no_form.ensures.stream c.no_form.ensures.text c.no_form.ensures.status
 
-pub returns-in-Err-Failed : goal.returns-in-Err-Failed
-returns-in-Err-Failed g c =
+pub returns-in-Err-Failed-clause-due : goal.returns-in-Err-Failed-clause-due
+returns-in-Err-Failed-clause-due g c =
     let file = c.args.file.now in
     lined (Analysed file (g.P.Shelf.file c.args.shelf.now file) (g.P.Shelf.faults c.args.shelf.now) (g.P.Shelf.faults c.read_file.new.shelf))
     (unreadable_line file) ReadFault c.unreadable.result

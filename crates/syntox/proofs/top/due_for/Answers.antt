@@ -26,7 +26,7 @@ returns-in-Some-Analyse-clause-due g c =
     (input_of (g.D.Source.left c.args.given.now) (g.D.Source.faults c.args.given.now) (g.D.Source.faults c.args.given.now)))
     (asked c.args.words.now) c.analyse.result c.in-Some-Analyse.file.now
     (asks_for string_bytes c.args.words.now.items c.deref.result.now c.in-Some-Analyse.field-0 (command.Analyse c.in-Some-Analyse.file) c.deref.ensures.value c.in-Some-Analyse.field-0-is c.in-Some-Analyse.ensures)
-    c.analyse.ensures
+    c.analyse.ensures.due
 
 pub returns-in-Some-Run-clause-due : goal.returns-in-Some-Run-clause-due
 returns-in-Some-Run-clause-due g c =
