@@ -20,7 +20,7 @@ use Rattle.activations.proofs.ClassNumbers.{class_is}
 use Rattle.activations.proofs.DrawnEdges.{around_routine, some_around}
 use Rattle.activations.proofs.StandingNodes.{point_by}
 
-goto_in_scope : (f : Flow) (k r s : ℕ) (e : Edge) → slice_get f.edges k ≡ Some e → routine_at f.points e.from ≡ Some r → e.act ≡ act.Goto s → is_around (tables f.program) r s ≡ true
+pub goto_in_scope : (f : Flow) (k r s : ℕ) (e : Edge) → slice_get f.edges k ≡ Some e → routine_at f.points e.from ≡ Some r → e.act ≡ act.Goto s → is_around (tables f.program) r s ≡ true
 goto_in_scope f k r s e known stands is =
     let point = point_by f e.from r (slice_get f.points e.from) refl stands in
     let fits = f.edges_fit.scopes k e point.one known point.is in

@@ -12,12 +12,16 @@ pub mod DrawnEdges
 pub mod DrawnGotos
 pub mod DrawnNodes
 pub mod FirstPlaces
+pub mod FittingArcs
+pub mod FittingGraphs
+pub mod FittingNodes
 pub mod FoundNodes
 pub mod LinkedSites
 pub mod ListedArcs
 pub mod NodeNumbers
 pub mod NumbersFrom
 pub mod Occurrences
+pub mod OuterClasses
 pub mod Pieces
 pub mod SameArcs
 pub mod SilenceMarks

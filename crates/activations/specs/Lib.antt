@@ -12,3 +12,4 @@ pub mod Marks
 pub mod Distinct
 pub mod Passed
 pub mod Outside
+pub mod Fitting
