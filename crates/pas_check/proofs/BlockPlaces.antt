@@ -26,7 +26,6 @@ use Rattle.pas_tree.specs.declared.block.TypeDecl.{TypeDecl}
 use Rattle.pas_tree.specs.declared.block.VarDecl.{VarDecl}
 use Rattle.pas_check.specs.declared.actual.Formal.{Formal}
 use Rattle.pas_check.specs.declared.built.Built.{Built}
-use Rattle.pas_check.specs.declared.fault.Rule.{Rule}
 use Rattle.pas_check.specs.declared.fault.Rule.TheVariants as rule
 use Rattle.pas_check.specs.declared.heading.Opened.{Opened}
 use Rattle.pas_check.specs.declared.heading.Owner.{Owner}
@@ -40,7 +39,7 @@ use Rattle.pas_check.specs.Formals.{Formed, formal_declared, kind_of, section_de
 use Rattle.pas_check.specs.Headings.{begun, heading_read, outside, owner_in, result_declared, result_read, unformed}
 use Rattle.pas_check.specs.Hiding.{declared_routines, if_declaring, is_declaring, other_names}
 use Rattle.pas_check.specs.Names.{Name, Names, name_at, noted_all}
-use Rattle.pas_check.specs.Outcome.{Outcome, unless}
+use Rattle.pas_check.specs.Outcome.{Outcome}
 use Rattle.pas_check.specs.Placing.{labels_read}
 use Rattle.pas_check.specs.Routine.{repeated_heading}
 use Rattle.pas_check.specs.Spans.{block_within, const_decl_within, constant_within, label_within, routine_body_within, routine_within, section_within, statement_within, tree_within, type_decl_within, type_within, var_decl_within}
@@ -48,7 +47,7 @@ use Rattle.pas_check.specs.Spans as spans
 use Rattle.pas_check.specs.Stage.{Stage}
 use Rattle.pas_check.specs.TypeExpr.{named_type}
 use Rattle.pas_check.proofs.ExprPlaces.{After}
-use Rattle.pas_check.proofs.PlacesAllowed.{Fine, anyhow, goes, led_by_kept, led_kept}
+use Rattle.pas_check.proofs.PlacesAllowed.{Fine, anyhow, goes, led_by_kept, led_kept, unless_kept}
 use Rattle.pas_check.proofs.PlacesKept.{BuiltLies, If, begins_in, each_in, local_kept, one_more, variable_kept}
 use Rattle.pas_check.proofs.StatementPlaces.{MembersLie, begin_lies, sequence_kept, statement_of_lies}
 
@@ -212,10 +211,6 @@ module _ (len : ℕ) where
   with_word_lies : (function : Bool) (o : Option Opened) → If o OpenedLies → If (with_word function o) OpenedLies
   with_word_lies function None h = tt
   with_word_lies function (Some o) h = chosen_lies (beq function o.function) (Some o) None h tt
-
-  unless_kept : {A : Type 0} (Q : A → Type 0) (c : Bool) (rule : Rule) (at : ℕ) (o : Outcome A) → Fine o Q → Fine (unless c rule at o) Q
-  unless_kept Q true rule at o h = tt
-  unless_kept Q false rule at o h = h
 
   forwarded_kept : (s : Standing) (r : Routine) (word : Span) (x : Stage × Opened) → StandingLies s → HeadedLies x → Fine (forwarded s r word x) StandingLies
   forwarded_kept s r word x l q =

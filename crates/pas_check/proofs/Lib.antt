@@ -1,6 +1,7 @@
 pub mod Begins
 pub mod BlockExamples
 pub mod BlockPlaces
+pub mod BlockRises
 pub mod Blocks
 pub mod ByName
 pub mod Calls
@@ -8,6 +9,7 @@ pub mod Constants
 pub mod Declarations
 pub mod Declared
 pub mod ExprPlaces
+pub mod ExprRises
 pub mod FormExamples
 pub mod Formals
 pub mod Forms
@@ -27,11 +29,13 @@ pub mod Reaching
 pub mod ReachingLaw
 pub mod ReachingMarks
 pub mod ReachingNotes
+pub mod RisesKept
 pub mod Routines
 pub mod SmallTrees
 pub mod StatementExamples
 pub mod StatementForms
 pub mod StatementPlaces
+pub mod StatementRises
 pub mod Statements
 pub mod Turns
 pub mod Writes

@@ -1,8 +1,9 @@
 -- What is answered where no rule is broken: how it is kept from one test to the next.
-use Rattle.std.proofs.Common.{List, [], ◌∷◌, Ok, Err}
+use Rattle.std.proofs.Common.{ℕ, Bool, true, false, List, [], ◌∷◌, Ok, Err}
 use Rattle.std.specs.List.{AllByRecursion}
 use Rattle.pas_check.specs.Declarations.{led, led_by}
-use Rattle.pas_check.specs.Outcome.{Outcome, ◌>>=◌}
+use Rattle.pas_check.specs.declared.fault.Rule.{Rule}
+use Rattle.pas_check.specs.Outcome.{Outcome, ◌>>=◌, unless}
 
 abbrev pub Fine : {A : Type 0} → Outcome A → (A → Type 0) → Type 0
 Fine (Ok a) P = P a
@@ -15,6 +16,10 @@ goes (Err e) f P Q h k = tt
 pub anyhow : {A B : Type 0} (o : Outcome A) (f : A → Outcome B) (Q : B → Type 0) → ((a : A) → Fine (f a) Q) → Fine (o >>= f) Q
 anyhow (Ok a) f Q k = k a
 anyhow (Err e) f Q k = tt
+
+pub unless_kept : {A : Type 0} (Q : A → Type 0) (c : Bool) (rule : Rule) (at : ℕ) (o : Outcome A) → Fine o Q → Fine (unless c rule at o) Q
+unless_kept Q true rule at o h = tt
+unless_kept Q false rule at o h = h
 
 module _ {S A : Type 0} (P : S → Type 0) (R : A → Type 0) where
   pub led_kept : (step : S → A → S) → ((s : S) (a : A) → P s → R a → P (step s a)) → (s : S) (xs : List A) → P s → AllByRecursion R xs → P (led step s xs)

@@ -1,5 +1,7 @@
 ghost use Rattle.std.specs.Prelude.{◌≡◌, ℕ, [], IfErr, IfOk, length, map, true};
 ghost use Rattle.pas_program.specs.Places.{LiesIn};
+ghost use Rattle.pas_program.specs.Rising.{PlacesRise};
+ghost use Rattle.pas_tree.specs.Order.{IsRising, tree_starts};
 ghost use Rattle.pas_check.specs.Accepted.{IsProgramOf};
 ghost use Rattle.pas_check.specs.Blocks.{IsSound, IsSoundFault, all_ended, at_first, program_start, required};
 ghost use Rattle.pas_check.specs.Built.{nothing_built};
@@ -45,6 +47,9 @@ pub fn check(alloc: Global, text: &[u8], tree: &Tree) -> Result<Program, CheckFa
 
     // Where the spans of the tree are pieces of a text of so many bytes, all places and spans of the program lie in it.
     ensures places { (len : ℕ) → tree_within len tree.now ≡ true → IfOk result (λ p. LiesIn len p) }
+
+    // Where the constructs of the tree begin at rising places, the places of the parts of each action of the program rise too.
+    ensures rising { IsRising 0 (tree_starts tree.now) → IfOk result (λ p. PlacesRise p.routines p.asserts) }
 {
     match checked(alloc, text, tree) {
         Ok(program) => Ok(program),

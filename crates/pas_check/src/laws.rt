@@ -3,7 +3,9 @@
 ghost use Rattle.std.specs.Prelude.{◌≡◌, ℕ, List, true};
 ghost use Rattle.pas_program.specs.declared.program.Program.{Program};
 ghost use Rattle.pas_program.specs.Places.{LiesIn};
+ghost use Rattle.pas_program.specs.Rising.{PlacesRise};
 ghost use Rattle.pas_tree.specs.declared.block.Tree.{Tree};
+ghost use Rattle.pas_tree.specs.Order.{IsRising, tree_starts};
 ghost use Rattle.pas_check.specs.declared.fault.Rule.{Rule};
 ghost use Rattle.pas_check.specs.Accepted.{IsProgramOf};
 ghost use Rattle.pas_check.specs.Blocks.{IsFirstBroken, ProgramMay};
@@ -39,4 +41,10 @@ pub fn a_tree_has_one_program()
 /// is that of a byte of the text.
 pub fn places_lie_in_the_text()
     ensures { (len : ℕ) (text : List ℕ) (tree : Tree) (p : Program) → tree_within len tree ≡ true → IsProgramOf text tree p → LiesIn len p }
+{}
+
+/// A law: where the constructs of a tree begin at rising places, as in each tree that the parser makes, the places of the parts of each
+/// action in its program rise too.
+pub fn places_rise_in_the_program()
+    ensures { (text : List ℕ) (tree : Tree) (p : Program) → IsRising 0 (tree_starts tree) → IsProgramOf text tree p → PlacesRise p.routines p.asserts }
 {}

@@ -26,7 +26,7 @@ use Rattle.pas_tree.specs.declared.statement.Element.{Element}
 use Rattle.pas_tree.specs.declared.statement.Statement.{Statement}
 use Rattle.pas_tree.specs.declared.type_expr.TypeExpr.{TypeExpr}
 use Rattle.pas_parser.specs.Look.{span_at, cover}
-use Rattle.pas_parser.specs.Order.{Starts, Parts, joined, span_starts, value_step, expr_step, access_step, actual_step, value_starts, expr_starts, access_starts, actual_starts, label_starts, constant_starts, type_step, type_starts, assertion_starts, body_step, element_step, with_word, label_if_some, statement_step, statement_starts, body_starts, element_starts, const_decl_starts, type_decl_starts, var_decl_starts, section_starts, span_if_some, routine_body_step, block_step, routine_step, block_starts, routine_starts, routine_body_starts, tree_starts}
+use Rattle.pas_tree.specs.Order.{Starts, Parts, joined, span_starts, value_step, expr_step, access_step, actual_step, value_starts, expr_starts, access_starts, actual_starts, label_starts, constant_starts, type_step, type_starts, assertion_starts, body_step, element_step, with_word, label_if_some, statement_step, statement_starts, body_starts, element_starts, const_decl_starts, type_decl_starts, var_decl_starts, section_starts, span_if_some, routine_body_step, block_step, routine_step, block_starts, routine_starts, routine_body_starts, tree_starts}
 use Rattle.pas_parser.specs.Grammar.Word.{IsName, Many, no_more, one_more, OneOrMore, only, and_then, Separated, last_one, and_more}
 use Rattle.pas_parser.specs.Grammar.Block as block
 use Rattle.pas_parser.specs.Grammar.Constant as constant

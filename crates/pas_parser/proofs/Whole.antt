@@ -8,7 +8,7 @@ use Rattle.pas_parser.specs.Program.{program}
 use Rattle.pas_parser.specs.Depth.{tree_depth}
 use Rattle.pas_parser.specs.Each.{each_tree, fits, within, numbered, NumbersPass}
 use Rattle.pas_parser.specs.Grammar.Program.{IsProgram}
-use Rattle.pas_parser.specs.Order.{Starts, IsRising, tree_starts}
+use Rattle.pas_tree.specs.Order.{Starts, IsRising, tree_starts}
 use Rattle.pas_parser.specs.Parts.{tree_parts}
 use Rattle.pas_parser.proofs.Advance as advance
 use Rattle.pas_parser.proofs.Counted as counted

@@ -7,7 +7,6 @@ pub mod Grammar
 pub mod Look
 pub mod Loop
 pub mod Operator
-pub mod Order
 pub mod Outcome
 pub mod Parts
 pub mod Program

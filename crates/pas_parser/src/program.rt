@@ -5,7 +5,7 @@ ghost use Rattle.pas_lexer.specs.Spans.{NumbersFit, SpansRise};
 ghost use Rattle.pas_parser.specs.Depth.{tree_depth};
 ghost use Rattle.pas_parser.specs.Each.{NumbersPass, each_tree, fits, numbered, within};
 ghost use Rattle.pas_parser.specs.Grammar.Program.{IsProgram};
-ghost use Rattle.pas_parser.specs.Order.{IsRising, tree_starts};
+ghost use Rattle.pas_tree.specs.Order.{IsRising, tree_starts};
 ghost use Rattle.pas_parser.specs.Parts.{tree_parts};
 ghost use Rattle.pas_parser.specs.Program as spec;
 ghost use Rattle.pas_parser.specs.Outcome.{Gives, IsPlace};

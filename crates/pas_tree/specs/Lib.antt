@@ -1,1 +1,2 @@
 pub mod Expr
+pub mod Order

@@ -10,6 +10,7 @@ ghost use Rattle.pas_lexer.specs.declared.token.Token.{Token};
 ghost use Rattle.pas_parser.specs.Grammar.Program.{IsProgram};
 ghost use Rattle.pas_parser.specs.Outcome.{Gives};
 ghost use Rattle.pas_parser.specs.Program.{program};
+ghost use Rattle.pas_program.specs.Rising as rising;
 ghost use Rattle.pas_tree.specs.declared.block.Block.{Block};
 ghost use Rattle.pas_tree.specs.declared.block.RoutineBody.TheViews.{out-Block};
 ghost use Rattle.pas_tree.specs.declared.block.Tree.{Tree};
@@ -87,6 +88,7 @@ fn checked(fault: CheckFault) -> Refusal
 pub fn flow_of(alloc: Global, text: &[u8]) -> Result<Flow, Refusal>
     requires { length text.now ≤ max_source }
     ensures flow { IfOk result (IsFlowOf text.now) }
+    ensures rising { IfOk result (λ flow. rising.PlacesRise flow.program.routines flow.program.asserts) }
     ensures fault { IfErr result (Refuses text.now) }
     ensures place { IfErr result (CanBeTold (length text.now)) }
 {

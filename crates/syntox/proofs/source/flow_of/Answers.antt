@@ -1,4 +1,7 @@
-use Rattle.std.proofs.Common.{sym, subst}
+use Rattle.std.proofs.Common.{length, sym, subst}
+use Rattle.pas_lexer.specs.Spans.{SpansRise}
+use Rattle.pas_program.specs.declared.program.Program.{Program}
+use Rattle.pas_program.specs.Rising.{PlacesRise}
 use Rattle.pas_check.specs.Accepted.{IsProgramOf}
 use Rattle.syntox.proofs.Faults.{tree_of}
 use Rattle.syntox.proofs.source.flow_of.Goals as goal
@@ -26,3 +29,9 @@ returns-in-Ok-build-clause-flow c =
       is_program = subst (IsProgramOf c.args.text.now c.in-Ok-parse.tree) (sym c.in-Ok-build.ensures) c.in-Ok-check.ensures.program;
       is_drawn = c.flows_are_those_of_paths.ensures c.in-Ok-build.flow;
     }
+
+pub returns-in-Ok-build-clause-rising : goal.returns-in-Ok-build-clause-rising
+returns-in-Ok-build-clause-rising c =
+    subst (λ (p : Program). PlacesRise p.routines p.asserts) (sym c.in-Ok-build.ensures)
+    (c.in-Ok-check.ensures.rising (c.in-Ok-parse.ensures.order (length c.args.text.now)
+    (subst (SpansRise (length c.args.text.now)) (sym c.deref.ensures.value) c.in-Ok.ensures.spans)))
