@@ -45,7 +45,7 @@ once (m ∷ ns) n d e =
     neither true b p q = absurd (grind arith)
     neither false true p q = absurd (grind arith)
 
-members_once : (found ns : List ℕ) → is_distinct found ≡ true → is_distinct (fold (with_member nat_eq) found ns) ≡ true
+pub members_once : (found ns : List ℕ) → is_distinct found ≡ true → is_distinct (fold (with_member nat_eq) found ns) ≡ true
 members_once found [] d = d
 members_once found (n ∷ ns) d = members_once (with_member nat_eq found n) ns (by (list_any (nat_eq n) found) refl)
   where
@@ -119,7 +119,7 @@ module _ (s : Sharing) (variables : List ℕ) where
 -- ---- of the classes of a program
 
 -- the variables of a routine with cells of their own, each once
-own_once : (p : Program) (r : ℕ) → is_distinct (own_of (outline_of_program p) r) ≡ true
+pub own_once : (p : Program) (r : ℕ) → is_distinct (own_of (outline_of_program p) r) ≡ true
 own_once p r = by_routine p (λ (x : RoutineOutline). is_distinct x.own ≡ true) r refl (λ d e. own_distinct p r d e)
 
 pub main_apart : (p : Program) → AreApart (origin_by (outline_of_program p) [] None) (cell_count (outline_of_program p) []) 0 0

@@ -29,3 +29,4 @@ pub mod Seen
 pub mod Sharing
 pub mod Tabled
 pub mod Variables
+pub mod Joined

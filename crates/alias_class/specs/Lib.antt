@@ -9,3 +9,4 @@ pub mod Passings
 pub mod Ranks
 pub mod Storage
 pub mod Tables
+pub mod Linked

@@ -9,10 +9,11 @@ ghost use Rattle.control_points.specs.Fits.{act_at};
 ghost use Rattle.control_points.specs.Flows.{chart_of};
 ghost use Rattle.control_points.specs.Runs.{IsInput, at};
 ghost use Rattle.control_points.specs.States.{State};
-ghost use Rattle.alias_class.specs.Calls.{IsSite, callee};
+ghost use Rattle.alias_class.specs.Calls.{IsSite, callee, links_at};
 ghost use Rattle.alias_class.specs.Cells.{IsClass, around, cell_count, inherited_count, is_seen, routine_of};
 ghost use Rattle.alias_class.specs.Classes.{Class};
 ghost use Rattle.alias_class.specs.Denotation.{AreApart, origin_by};
+ghost use Rattle.alias_class.specs.Linked.{LinksShare};
 ghost use Rattle.alias_class.specs.Outlines.{outline_of};
 ghost use Rattle.alias_class.specs.Storage.{HasItsClass, IsCallAt, IsClosed, IsDisjoint, KeepsReach, SharesLinked, StaysDeeper};
 
@@ -30,6 +31,12 @@ pub fn what_is_in_scope_is_seen()
 pub fn cells_are_disjoint()
     ensures outermost { (f : Flow) → AreApart (origin_by (outline_of f) [] None) (cell_count (outline_of f) []) 0 0 }
     ensures entered { (f : Flow) (c : Class) (k : ℕ) → IsClass (outline_of f) c → IsSite f.points f.edges (routine_of (outline_of f) c) k → AreApart (origin_by (outline_of f) c (act_at f.edges k)) (cell_count (outline_of f) (callee (outline_of f) f.edges c k)) (inherited_count (outline_of f) (callee (outline_of f) f.edges c k)) (cell_count (outline_of f) c) }
+{}
+
+/// The links of a call lead from different cells of the class that calls to the cells of the class that it enters which are no variables of its
+/// routine's own, and to each of them.
+pub fn links_join_the_shared_cells()
+    ensures { (f : Flow) (c : Class) (k : ℕ) → IsClass (outline_of f) c → IsSite f.points f.edges (routine_of (outline_of f) c) k → LinksShare (outline_of f) c (callee (outline_of f) f.edges c k) (links_at (outline_of f) f.edges c k) }
 {}
 
 /// In each state of each run, each cell of each activation denotes a variable of an activation, and different cells of one activation denote

@@ -21,5 +21,6 @@ pub use bind::{Bind, Link};
 pub use classes::Classes;
 pub use laws::{
     cells_are_disjoint, cells_denote_different_variables, each_activation_has_its_class,
-    linked_cells_denote_one_variable, what_is_hidden_is_out_of_reach, what_is_in_scope_is_seen,
+    linked_cells_denote_one_variable, links_join_the_shared_cells, what_is_hidden_is_out_of_reach,
+    what_is_in_scope_is_seen,
 };
