@@ -1,5 +1,14 @@
 pub mod AccessTypes
+pub mod ActsSeen
+pub mod AllHold
+pub mod Chosen
+pub mod JudgedForms
+pub mod JudgedParts
+pub mod JudgedSteps
+pub mod LeavingPoints
 pub mod Levels
+pub mod Listed
+pub mod Marked
 pub mod Parts
 pub mod Seen
 pub mod Shrinking

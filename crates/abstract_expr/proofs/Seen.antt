@@ -21,7 +21,7 @@ use Rattle.alias_class.specs.Outlines.{no_outline, outline_of_program, parent_of
 use Rattle.abstract_expr.specs.Standing.{seen_rule}
 
 -- what is known of a thing is known of one that there is
-record Holds (A : Type 0) (p : A → Bool) (o : Option A) : Type 0 where
+pub record Holds (A : Type 0) (p : A → Bool) (o : Option A) : Type 0 where
   pub one : A
   pub is : o ≡ Some one
   pub holds : p one ≡ true
@@ -114,7 +114,7 @@ module _ (p : Program) where
         (ap (holds_of (λ (x : VariableOutline). is_some (around (outline_of_program p) c x.routine))) known ∙ leads_around h.one.level c is x.one.routine h.holds)
 
   -- a routine that calls sees its slots
-  leads_here : (r n : ℕ) → leads_within n (tables p) r r ≡ true
+  pub leads_here : (r n : ℕ) → leads_within n (tables p) r r ≡ true
   leads_here r zero = eq-eqb r r refl
   leads_here r (suc n) = ap (λ b. b || holds_of (λ (h : Head). holds_of (λ q. leads_within n (tables p) q r) h.parent) ((tables p).head_at r)) (eq-eqb r r refl)
 

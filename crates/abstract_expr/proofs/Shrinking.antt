@@ -58,7 +58,7 @@ pub record IsLess (after before : Environment) : Type 0 where
   pub below : env_below after before ≡ true
   pub cells : cell_count after ≡ cell_count before
 
-less_itself : (env : Environment) → IsLess env env
+pub less_itself : (env : Environment) → IsLess env env
 less_itself (Unreachable n) = record { below = refl; cells = refl }
 less_itself (Reachable vs) = record { below = below_itself vs; cells = refl }
 

@@ -15,7 +15,7 @@ ghost use Rattle.abstract_expr.specs.Scopes.{AccessStands, Stands, cells_of, pro
 ghost use Rattle.abstract_expr.specs.Standing.{cells_in, scope_in, seen_in};
 
 use crate::scope::{Scope, truth};
-use crate::typing::range_of;
+use crate::tables::{range_of, type_at};
 use alias_class::{Bind, Classes};
 use control_points::Flow;
 use environment::Env;
@@ -154,7 +154,7 @@ impl Scope<'_> {
         for subscript in access.subscripts.as_slice() {
             match self.program().type_def(of_type) {
                 TypeDef::Array { index, element } => {
-                    self.refine(env, subscript, range_of(self.program(), index));
+                    self.refine(env, subscript, range_of(type_at(self.program(), index)));
                     of_type = element;
                 }
                 TypeDef::Scalar { .. } => unreachable!(),

@@ -13,7 +13,7 @@ ghost use Rattle.abstract_expr.specs.Expressions.{range_of, target, truth_of, va
 ghost use Rattle.abstract_expr.specs.Standing.{cells_in, scope_in, seen_in};
 
 use crate::names::Names;
-use crate::typing::range_of;
+use crate::tables::{range_of, type_at};
 use alias_class::{Bind, Classes};
 use control_points::{Flow, is_boolean};
 use environment::Env;
@@ -102,7 +102,7 @@ impl<'a> Scope<'a> {
         requires { of_type < length (program_of self.now).types }
         ensures { result ≡ range_of ((scope_of self.now).tables.type_at of_type) }
     {
-        range_of(self.program(), of_type)
+        range_of(type_at(self.program(), of_type))
     }
 
     /// The type of a variable.

@@ -160,7 +160,7 @@ module _ (q : Rule) where
   part_passes r at (Body-F.Repeat body until cond) h = refl
   part_passes r at (Body-F.For control bound first down last body) h = refl
 
-  routine_passes : (r : ℕ) (d : Routine) → each_statement q d.body ≡ true → AllPass (routine_marks r d)
+  pub routine_passes : (r : ℕ) (d : Routine) → each_statement q d.body ≡ true → AllPass (routine_marks r d)
   routine_passes r d h =
       let p = and_parts (list_all q.assertion (out-Statement d.body).asserts) _ (to_statement q (out-Statement d.body) (ap (each_statement q) (roll-out-Statement d.body) ∙ h)) in
       part_passes r (out-Statement d.body).at (out-Body (out-Statement d.body).body) (ap (each_body q) (roll-out-Body (out-Statement d.body).body) ∙ p.1)

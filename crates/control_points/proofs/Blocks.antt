@@ -160,7 +160,7 @@ parts_from r d (Body-F.For control bound first down last body) e h = absurd (tru
 parts_of : (r : ℕ) (d : Routine) → is_outermost d.body ≡ true → Parts r d
 parts_of r d h = parts_from r d (out-Body (out-Statement d.body).body) refl (and_parts (is_begin (out-Body (out-Statement d.body).body)) _ h).0
 
-abbrev AllOutermost : List Routine → Type 0
+abbrev pub AllOutermost : List Routine → Type 0
 AllOutermost routines = (k : ℕ) (d : Routine) → slice_get routines k ≡ Some d → is_outermost d.body ≡ true
 
 -- the routine at k, between its start and that of the next one
@@ -213,9 +213,13 @@ blocks_of routines o = record {
 pub block_size : (routines : List Routine) → AllOutermost routines → (r : ℕ) (d : Routine) → r < length routines → slice_get routines r ≡ Some d → slice_index (starts 0 0 routines) r + routine_points d + 1 ≡ slice_index (starts 0 0 routines) (suc r) - 1
 block_size routines o r d h e = (block_at [] 0 routines r h o).size d e
 
+-- those of its statements, an entry and an exit
+pub marks_count : (r : ℕ) (d : Routine) → is_outermost d.body ≡ true → length (routine_marks r d) ≡ routine_points d + 2
+marks_count r d h = let p = parts_of r d h in omega (arith, ap length p.made, length-append p.inner (mark r kind.Exit p.end ∷ []), p.many)
+
 -- an entry and an exit at least
 pub marks_many : (r : ℕ) (d : Routine) → is_outermost d.body ≡ true → 2 ≤ length (routine_marks r d)
-marks_many r d h = let p = parts_of r d h in omega (arith, ap length p.made, length-append p.inner (mark r kind.Exit p.end ∷ []))
+marks_many r d h = omega (arith, marks_count r d h)
 
 -- each point is of one of the routines
 below_first : (first more : ℕ) (m : Mark) → m.point.routine ≡ first → m.point.routine < first + suc more
@@ -229,12 +233,14 @@ part_own r d p (suc k) m h =
       | inr g ↦ sym (ap (λ (x : Mark). x.point.routine) g.1)
     ]
 
+pub routine_own : (r : ℕ) (d : Routine) → is_outermost d.body ≡ true → (k : ℕ) (m : Mark) → slice_get (routine_marks r d) k ≡ Some m → m.point.routine ≡ r
+routine_own r d o k m h = let parts = parts_of r d o in part_own r d parts k m (ap (λ xs. slice_get xs k) (sym parts.made) ∙ h)
+
 pub marks_below : (first : ℕ) (routines : List Routine) → AllOutermost routines → (p : ℕ) (m : Mark) → slice_get (routines_marks first routines) p ≡ Some m → m.point.routine < first + length routines
 marks_below first [] o p m h = absurd (none-some m h)
 marks_below first (d ∷ routines) o p m h =
-    let parts = parts_of first d (o 0 d refl) in
     elim (get_either (routine_marks first d) (routines_marks (suc first) routines) p m h) [
-      | inl g ↦ below_first first (length routines) m (part_own first d parts p m (ap (λ xs. slice_get xs p) (sym parts.made) ∙ g))
+      | inl g ↦ below_first first (length routines) m (routine_own first d (o 0 d refl) p m g)
       | inr g ↦ let b = marks_below (suc first) routines (λ k x e. o (suc k) x e) (p - length (routine_marks first d)) m g.1 in omega (arith, b)
     ]
 

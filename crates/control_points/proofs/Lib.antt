@@ -1,6 +1,9 @@
 pub mod ActionPlaces
 pub mod Alone
+pub mod ArmsApart
+pub mod ArmsStatements
 pub mod Asserted
+pub mod AssertedRoutines
 pub mod Blocks
 pub mod CallsOf
 pub mod Counted

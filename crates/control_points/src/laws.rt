@@ -1,8 +1,10 @@
 //! Laws of the definitions. Each is the contract of a function without a body.
 ghost use Rattle.std.specs.Prelude.{◌≡◌, ℕ, ◌<◌, ◌≤◌, ◌↔◌, true, false, List, [], ◌∷◌, length, slice_get, ℤ, Some, None, Ok};
+ghost use Rattle.std.specs.List.{list_all};
 ghost use Rattle.pas_program.specs.declared.expr.Access.{Access};
 ghost use Rattle.pas_program.specs.declared.expr.Expr.{Expr};
 ghost use Rattle.pas_program.specs.Each.{each_access, each_expr};
+ghost use Rattle.pas_program.specs.Labels.{all_differ, assertion_rule};
 ghost use Rattle.pas_program.specs.Scopes.{scope_rule};
 ghost use Rattle.pas_program.specs.Tables.{is_visible};
 ghost use Rattle.pas_program.specs.Typed.{hosted, reached};
@@ -11,6 +13,7 @@ ghost use Rattle.control_points.specs.declared.edge.Edge.{Edge};
 ghost use Rattle.control_points.specs.declared.fault.Fault.{Fault};
 ghost use Rattle.control_points.specs.declared.flow.Flow.{Flow};
 ghost use Rattle.control_points.specs.declared.item.Item.{Item};
+ghost use Rattle.control_points.specs.declared.point.Point.{Point};
 ghost use Rattle.control_points.specs.Actions.{view};
 ghost use Rattle.control_points.specs.Chart.{Chart, leaving};
 ghost use Rattle.control_points.specs.Evaluation.{Spot, spot, value};
@@ -18,6 +21,7 @@ ghost use Rattle.control_points.specs.Finding.{frame_at};
 ghost use Rattle.control_points.specs.Fits.{callee_of, routine_at};
 ghost use Rattle.control_points.specs.Flows.{chart_of};
 ghost use Rattle.control_points.specs.Foreseen.{IsForeseen};
+ghost use Rattle.control_points.specs.Judgements.{constants_at};
 ghost use Rattle.control_points.specs.Leading.{IsAtEnd, IsCase};
 ghost use Rattle.control_points.specs.Matching.{IsMadeAt, IsStep};
 ghost use Rattle.control_points.specs.Runs.{IsInput, IsOnTheWay, at, start};
@@ -39,6 +43,16 @@ pub fn flows_are_well_formed()
 /// The edge of a call is the only one that leaves its point: where a run stands there, the next step is this call or its error.
 pub fn a_call_leaves_its_point_alone()
     ensures { (f : Flow) (k r : ℕ) (e : Edge) → slice_get f.edges k ≡ Some e → callee_of e.act ≡ Some r → leaving f.edges e.from ≡ k ∷ [] }
+{}
+
+/// The assertions that belong to a point are of the point's routine.
+pub fn assertions_are_of_their_routine()
+    ensures { (f : Flow) (p : ℕ) (q : Point) (listed : List ℕ) → slice_get f.points p ≡ Some q → slice_get f.asserts p ≡ Some listed → list_all (assertion_rule f.program.asserts q.routine).assertion listed ≡ true }
+{}
+
+/// The constants of the arms that leave one point differ.
+pub fn constants_of_a_case_differ()
+    ensures { (f : Flow) (p : ℕ) → all_differ (constants_at f.edges p) ≡ true }
 {}
 
 /// A run begins in a valid state.

@@ -43,10 +43,11 @@ pub use judgements::{
     each_check_judges_a_part, each_judgement_has_a_check,
 };
 pub use laws::{
-    a_call_leaves_its_point_alone, a_run_halts_at_its_exit_alone, each_activation_was_made,
-    each_error_is_foreseen, each_step_follows_an_edge, earlier_is_on_the_way,
-    flows_are_well_formed, next_is_valid, only_a_case_may_have_no_action, runs_are_valid,
-    spots_exist, start_is_valid, values_lie_in_their_hosts, variables_exist,
+    a_call_leaves_its_point_alone, a_run_halts_at_its_exit_alone, assertions_are_of_their_routine,
+    constants_of_a_case_differ, each_activation_was_made, each_error_is_foreseen,
+    each_step_follows_an_edge, earlier_is_on_the_way, flows_are_well_formed, next_is_valid,
+    only_a_case_may_have_no_action, runs_are_valid, spots_exist, start_is_valid,
+    values_lie_in_their_hosts, variables_exist,
 };
 pub use paths::{flows_are_those_of_paths, paths_say_the_same_as_numbers};
 pub use point::{Point, PointKind};

@@ -121,12 +121,6 @@ pub refine_subscripts-type_def-requires : goal.refine_subscripts-type_def-requir
 refine_subscripts-type_def-requires t c =
     subst (λ p. c.loop-subscript.of_type < length p.types) (sym c.program.ensures) c.loop-subscript.invariant.in_range
 
-pub refine_subscripts-range_of-requires : goal.refine_subscripts-range_of-requires
-refine_subscripts-range_of-requires t c =
-    let a = array_after _ c.loop-subscript.of_type c.in-Array.index c.in-Array.element c.in-Array.ensures.fits in
-    let h : c.in-Array.index < length (program_of c.args.self.now).types = omega (arith, a.0, c.loop-subscript.invariant.in_range) in
-    subst (λ p. c.in-Array.index < length p.types) (sym c.program-in-Array.ensures) h
-
 pub refine_subscripts-refine-requires : goal.refine_subscripts-refine-requires
 refine_subscripts-refine-requires t c =
     let s = c.args.self.now in
@@ -167,7 +161,7 @@ refine_subscripts-loop-subscript-preserved t c =
     let l = leading_at (tables p) n i e xs c.loop-subscript-test.true c.subscript-item.is c.loop-subscript.invariant.fits in
     let same = same_array _ l.index l.element c.in-Array.index c.in-Array.element l.array array in
     let after = array_after _ n c.in-Array.index c.in-Array.element c.in-Array.ensures.fits in
-    let range = c.range_of.ensures ∙ ap (λ q. range_of (slice_get q.types c.in-Array.index)) c.program-in-Array.ensures in
+    let range = c.range_of.ensures ∙ ap range_of (c.type_at.ensures ∙ ap (λ q. slice_get q.types c.in-Array.index) c.program-in-Array.ensures) in
     record {
       in_range = omega (arith, after.1, c.loop-subscript.invariant.in_range);
       fits = subst (λ m. (subscripted (tables p) m (map (hosted (tables p)) (drop (i + 1) xs))).fits ≡ true) same.1 l.fits;
