@@ -1,0 +1,5 @@
+use Rattle.report.proofs.NodeFacts.{are_nodes}
+use Rattle.report.proofs.counts.counts_of.Goals as goal
+
+pub of-requires : goal.of-requires
+of-requires c = are_nodes c.args.flow.now c.args.graph.now c.requires.graph

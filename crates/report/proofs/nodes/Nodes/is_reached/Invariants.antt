@@ -1,0 +1,8 @@
+use Rattle.std.proofs.Common.{◌≡◌, false, take}
+use Rattle.std.specs.List.{list_any}
+use Rattle.environment.specs.Environments.{is_reachable}
+use Rattle.report.specs.Nodes.{element_at, environments, nodes_at}
+use Rattle.report.proofs.nodes.Nodes.is_reached.Given as goal
+
+abbrev pub invariant-loop-node : goal.invariant-loop-node
+invariant-loop-node l = list_any (λ node. is_reachable (element_at (environments l.table) node)) (take l.node-index l.node-items) ≡ false

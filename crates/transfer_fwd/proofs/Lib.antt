@@ -1,0 +1,12 @@
+pub mod AlongArcs
+pub mod AroundCells
+pub mod Called
+pub mod Entered
+pub mod ForwardEquations
+pub mod Joining
+pub mod KeptCells
+pub mod Passed
+pub mod ReadArcs
+pub mod Shapes
+pub mod StandingActs
+pub mod Stored
