@@ -1,0 +1,17 @@
+pub mod AlongArcs
+pub mod AroundCells
+pub mod Called
+pub mod Covering
+pub mod Entered
+pub mod ForwardEquations
+pub mod Joining
+pub mod KeptCells
+pub mod LoopBounds
+pub mod OwnCells
+pub mod Passed
+pub mod ReadArcs
+pub mod Shapes
+pub mod StandingActs
+pub mod StandingAsserts
+pub mod Stored
+pub mod Unreached
