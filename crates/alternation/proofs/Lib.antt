@@ -1,0 +1,4 @@
+pub mod Filling
+pub mod Listing
+pub mod Solving
+pub mod Sources

@@ -1,0 +1,4 @@
+pub mod Analysed
+pub mod Kept
+pub mod Limits
+pub mod Solved
