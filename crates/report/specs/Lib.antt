@@ -1,1 +1,6 @@
+pub mod Conditions
+pub mod Hosts
+pub mod Nodes
+pub mod Report
+pub mod Visible
 pub mod Wording

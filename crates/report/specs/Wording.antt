@@ -7,7 +7,6 @@ use Rattle.pas_lexer.specs.declared.fault.LexFault.{LexFault}
 use Rattle.pas_lexer.specs.declared.fault.LexFault.TheVariants as lexical
 use Rattle.pas_parser.specs.declared.fault.ParseFault.{ParseFault}
 use Rattle.pas_parser.specs.declared.fault.ParseFault.TheVariants as syntax
-use Rattle.pas_check.specs.declared.fault.CheckFault.{CheckFault}
 use Rattle.pas_check.specs.declared.fault.CheckFault.TheVariants as checked
 use Rattle.report.specs.declared.fault.SourceFault.{SourceFault}
 use Rattle.report.specs.declared.fault.SourceFault.TheVariants.{TooLarge, Lex, Parse, Check, Cells}

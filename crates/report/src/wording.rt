@@ -1,7 +1,9 @@
 //! What is said of each fault.
 ghost use Rattle.std.specs.Prelude.{◌≡◌, ◌≤◌};
+ghost use Rattle.report.specs.Report as report;
 ghost use Rattle.report.specs.Wording as spec;
 
+use control_points::PointKind;
 use pas_lexer::LexFault;
 use pas_parser::ParseFault;
 
@@ -59,5 +61,21 @@ pub fn check_message(code: u8) -> &'static str
         17 => "procedures nested too deep",
         18 => "label above 9999",
         _ => unreachable!(),
+    }
+}
+
+/// Where a point lies, as a report says it.
+pub(crate) fn point_word(kind: PointKind) -> &'static str
+    ensures { result.now ≡ report.point_word kind }
+{
+    match kind {
+        PointKind::Entry => "entry",
+        PointKind::Before => "before",
+        PointKind::AfterCall => "after call",
+        PointKind::AfterRead => "after read",
+        PointKind::AfterWrite => "after write",
+        PointKind::Until => "until",
+        PointKind::Step => "step",
+        PointKind::Exit => "exit",
     }
 }

@@ -1,0 +1,10 @@
+pub mod CheckNumbers
+pub mod DeclaredNames
+pub mod ElementTypes
+pub mod ListedNodes
+pub mod MarkedChecks
+pub mod Pieces
+pub mod Ranges
+pub mod ReadVariables
+pub mod TableRows
+pub mod VisibleVariables

@@ -1,5 +1,0 @@
-program undefined;
-var x, y: integer;
-begin
-  y := x
-end.
