@@ -4,14 +4,16 @@ use Rattle.px_base.specs.Bytes.{Adds}
 use Rattle.px_base.specs.Faults.{Rose}
 use Rattle.interp.specs.declared.running.Ending.{Ending}
 use Rattle.interp.specs.declared.running.Ending.TheVariants as ending
-use Rattle.syntox.specs.Analysis.{HasForm, HasNoForm, IsReport}
+use Rattle.syntox.specs.Analysis.{IsReport, TellsCells}
 use Rattle.syntox.specs.Analysis as analysis
 use Rattle.syntox.specs.Answers.{Cuts, ForCommand, ForRun, IsCut, IsDue, Outside}
 use Rattle.syntox.specs.Answers as due
 use Rattle.syntox.specs.Command.{Asked, analysis_of, run_of}
-use Rattle.syntox.specs.Lines.{large_input_line, max_input, refusal_line, unreadable_line, usage_line}
+use Rattle.syntox.specs.Files.{IsFaultless, TellsFault}
+use Rattle.syntox.specs.Files as opening
+use Rattle.syntox.specs.Lines.{large_input_line, unreadable_line, usage_line}
 use Rattle.syntox.specs.Lines as lines
-use Rattle.syntox.specs.Running.{IsFaultless, IsLargeInput, IsRun, IsRunStatus, TellsFault, status_of}
+use Rattle.syntox.specs.Running.{IsLargeInput, IsRun, status_of}
 use Rattle.syntox.specs.Running as running
 use Rattle.syntox.specs.Sinks.{Delivers, Sinks, Spares, Takes}
 use Rattle.syntox.specs.declared.due.Stream.{Stream}
@@ -78,49 +80,50 @@ no_cut status t e = subst IsText e t
 
 module _ {o : Outside} (s : Sinks) where
   done_due : {asked : Option Asked} {to : Stream} {text : List ℕ} → IsDue o asked to text Done → Went to text s
-      → ForCommand asked (λ file. Takes s.out_before.taken s.out_after.taken (IsReport file (o.files file)))
+      → ForCommand asked (λ file points. Takes s.out_before.taken s.out_after.taken (IsReport file points (o.files file)))
       (λ file steps. Takes s.out_before.taken s.out_after.taken (IsRun (o.files file) o.input.told steps Done))
-  done_due (due.unread u) w = elim u [ ]
+  done_due (due.unopened (opening.unread u)) w = elim u [ ]
   done_due {text = text} (due.analysed (analysis.report is)) w = (text, is, w.0)
   done_due (due.run (running.unread none u)) w = elim u [ ]
   done_due {text = text} (due.run (running.ran is)) w = (text, is, w.0)
 
   error_due : {asked : Option Asked} {to : Stream} {text : List ℕ} → IsDue o asked to text RunError → Went to text s
       → ForRun asked (λ file steps. Takes s.out_before.taken s.out_after.taken (IsRun (o.files file) o.input.told steps RunError))
-  error_due (due.unread u) w = elim u [ ]
+  error_due (due.unopened (opening.unread u)) w = elim u [ ]
   error_due (due.analysed a) w = elim a [ ]
   error_due (due.run (running.unread none u)) w = elim u [ ]
   error_due {text = text} (due.run (running.ran is)) w = (text, is, w.0)
 
   steps_due : {asked : Option Asked} {to : Stream} {text : List ℕ} → IsDue o asked to text OutOfSteps → Went to text s
       → ForRun asked (λ file steps. Takes s.out_before.taken s.out_after.taken (IsRun (o.files file) o.input.told steps OutOfSteps))
-  steps_due (due.unread u) w = elim u [ ]
+  steps_due (due.unopened (opening.unread u)) w = elim u [ ]
   steps_due (due.analysed a) w = elim a [ ]
   steps_due (due.run (running.unread none u)) w = elim u [ ]
   steps_due {text = text} (due.run (running.ran is)) w = (text, is, w.0)
 
   refused_due : {asked : Option Asked} {to : Stream} {text : List ℕ} → IsDue o asked to text Refused → Went to text s
-      → ForCommand asked (λ file. HasNoForm (o.files file) × Adds s.err_before.taken s.err_after.taken (refusal_line file))
+      → ForCommand asked (λ file points. Takes s.err_before.taken s.err_after.taken (λ line. TellsFault file (o.files file) line ⊎ TellsCells file (o.files file) line))
       (λ file steps. Takes s.err_before.taken s.err_after.taken (TellsFault file (o.files file)))
-  refused_due (due.unread u) w = elim u [ ]
-  refused_due (due.analysed (analysis.no_form none)) w = (none, w.0)
-  refused_due {text = text} (due.run (running.faulty tells)) w = (text, tells, w.0)
+  refused_due (due.unopened (opening.unread u)) w = elim u [ ]
+  refused_due {text = text} (due.unopened {asks = analysis_of file points} (opening.faulty tells)) w = (text, inl tells, w.0)
+  refused_due {text = text} (due.unopened {asks = run_of file steps} (opening.faulty tells)) w = (text, tells, w.0)
+  refused_due {text = text} (due.analysed (analysis.large tells)) w = (text, inr tells, w.0)
   refused_due (due.run (running.unread none u)) w = elim u [ ]
   refused_due (due.run (running.ran is)) w = absurd (ran_text Refused is.ended.ending is.is_status)
 
   read_fault_due : {asked : Option Asked} {to : Stream} {text : List ℕ} → IsDue o asked to text ReadFault → Went to text s
-      → ForCommand asked (λ file. Rose o.before o.after × Adds s.err_before.taken s.err_after.taken (unreadable_line file))
+      → ForCommand asked (λ file points. Rose o.before o.after × Adds s.err_before.taken s.err_after.taken (unreadable_line file))
       (λ file steps. (Rose o.before o.after × Adds s.err_before.taken s.err_after.taken (unreadable_line file))
       ⊎ (IsFaultless (o.files file) × Rose o.input.before o.input.after × Adds s.err_before.taken s.err_after.taken (unreadable_line (codes "input"))))
-  read_fault_due (due.unread {asks = analysis_of file} (lines.unreadable rose)) w = (rose, w.0)
-  read_fault_due (due.unread {asks = run_of file steps} (lines.unreadable rose)) w = inl (rose, w.0)
+  read_fault_due (due.unopened {asks = analysis_of file points} (opening.unread (lines.unreadable rose))) w = (rose, w.0)
+  read_fault_due (due.unopened {asks = run_of file steps} (opening.unread (lines.unreadable rose))) w = inl (rose, w.0)
   read_fault_due (due.analysed a) w = elim a [ ]
   read_fault_due (due.run (running.unread none (lines.unreadable rose))) w = inr (none, rose, w.0)
   read_fault_due (due.run (running.ran is)) w = absurd (ran_text ReadFault is.ended.ending is.is_status)
 
   large_due : {asked : Option Asked} {to : Stream} {text : List ℕ} → IsDue o asked to text DataTooLarge → Went to text s
       → ForRun asked (λ file steps. IsFaultless (o.files file) × IsLargeInput o.input.told × Adds s.err_before.taken s.err_after.taken large_input_line)
-  large_due (due.unread u) w = elim u [ ]
+  large_due (due.unopened (opening.unread u)) w = elim u [ ]
   large_due (due.analysed a) w = elim a [ ]
   large_due (due.run (running.unread none u)) w = elim u [ ]
   large_due (due.run (running.large none more)) w = (none, more, w.0)
@@ -129,13 +132,13 @@ module _ {o : Outside} (s : Sinks) where
   usage_due : {asked : Option Asked} {to : Stream} {text : List ℕ} → IsDue o asked to text Usage → Went to text s
       → (asked ≡ None) × Adds s.err_before.taken s.err_after.taken usage_line
   usage_due due.usage w = (refl, w.0)
-  usage_due (due.unread u) w = elim u [ ]
+  usage_due (due.unopened (opening.unread u)) w = elim u [ ]
   usage_due (due.analysed a) w = elim a [ ]
   usage_due (due.run (running.unread none u)) w = elim u [ ]
   usage_due (due.run (running.ran is)) w = absurd (ran_text Usage is.ended.ending is.is_status)
 
 no_write_due : {o : Outside} {asked : Option Asked} {to : Stream} {text : List ℕ} → IsDue o asked to text WriteFault → ⊥
-no_write_due (due.unread u) = elim u [ ]
+no_write_due (due.unopened (opening.unread u)) = elim u [ ]
 no_write_due (due.analysed a) = elim a [ ]
 no_write_due (due.run (running.unread none u)) = elim u [ ]
 no_write_due (due.run (running.ran is)) = ran_text WriteFault is.ended.ending is.is_status
@@ -150,7 +153,7 @@ module _ (o : Outside) (s : Sinks) (asked : Option Asked) (to : Stream) (text : 
       let w = went to text meant s status (λ f. whole (sym e ∙ f)) delivered in
       (subst (λ m. IsDue o asked to text m) (sym w.0 ∙ e) is, w.1)
 
-  pub done : status ≡ Done → ForCommand asked (λ file. Takes s.out_before.taken s.out_after.taken (IsReport file (o.files file)))
+  pub done : status ≡ Done → ForCommand asked (λ file points. Takes s.out_before.taken s.out_after.taken (IsReport file points (o.files file)))
       (λ file steps. Takes s.out_before.taken s.out_after.taken (IsRun (o.files file) o.input.told steps Done))
   done e = let a = answered Done (λ f. cc) e in done_due s a.0 a.1
 
@@ -163,12 +166,12 @@ module _ (o : Outside) (s : Sinks) (asked : Option Asked) (to : Stream) (text : 
   out_of_steps e = let a = answered OutOfSteps (λ f. cc) e in steps_due s a.0 a.1
 
   pub refused : status ≡ Refused
-      → ForCommand asked (λ file. HasNoForm (o.files file) × Adds s.err_before.taken s.err_after.taken (refusal_line file))
+      → ForCommand asked (λ file points. Takes s.err_before.taken s.err_after.taken (λ line. TellsFault file (o.files file) line ⊎ TellsCells file (o.files file) line))
       (λ file steps. Takes s.err_before.taken s.err_after.taken (TellsFault file (o.files file)))
   refused e = let a = answered Refused (λ f. cc) e in refused_due s a.0 a.1
 
   pub read_fault : status ≡ ReadFault
-      → ForCommand asked (λ file. Rose o.before o.after × Adds s.err_before.taken s.err_after.taken (unreadable_line file))
+      → ForCommand asked (λ file points. Rose o.before o.after × Adds s.err_before.taken s.err_after.taken (unreadable_line file))
       (λ file steps. (Rose o.before o.after × Adds s.err_before.taken s.err_after.taken (unreadable_line file))
       ⊎ (IsFaultless (o.files file) × Rose o.input.before o.input.after × Adds s.err_before.taken s.err_after.taken (unreadable_line (codes "input"))))
   read_fault e = let a = answered ReadFault (λ f. cc) e in read_fault_due s a.0 a.1
@@ -193,16 +196,16 @@ module _ (o : Outside) (s : Sinks) (asked : Option Asked) (to : Stream) (text : 
 -- ---- which sink stays as it was
 
 out_has_text : {o : Outside} {asked : Option Asked} {text : List ℕ} {meant : Status} → IsDue o asked Answers text meant → IsText meant
-out_has_text (due.unread u) = elim u [ ]
+out_has_text (due.unopened (opening.unread u)) = elim u [ ]
 out_has_text (due.analysed (analysis.report is)) = tt
 out_has_text (due.run (running.unread none u)) = elim u [ ]
 out_has_text {meant = meant} (due.run (running.ran is)) = ran_text meant is.ended.ending is.is_status
 
 err_has_none : {o : Outside} {asked : Option Asked} {text : List ℕ} {meant : Status} → IsDue o asked Complaints text meant → IsText meant → ⊥
 err_has_none due.usage t = t
-err_has_none (due.unread (lines.unreadable rose)) t = t
-err_has_none (due.analysed (analysis.no_form none)) t = t
-err_has_none (due.run (running.faulty tells)) t = t
+err_has_none (due.unopened (opening.unread (lines.unreadable rose))) t = t
+err_has_none (due.unopened (opening.faulty tells)) t = t
+err_has_none (due.analysed (analysis.large tells)) t = t
 err_has_none (due.run (running.unread none (lines.unreadable rose))) t = t
 err_has_none (due.run (running.large none more)) t = t
 

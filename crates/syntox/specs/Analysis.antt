@@ -1,35 +1,52 @@
--- The text that `analyse` owes. What a shelf tells of a file is `None` where it tells nothing, and `Some None` where it tells
--- that there is none.
-use Rattle.std.specs.Prelude.{◌≡◌, ℕ, ◌≤◌, List, length, Option}
-use Rattle.std.specs.List.{All}
-use Rattle.px_base.specs.Bytes.{ForFile}
-use Rattle.first_form.specs.Grammar.{IsFormOf}
-use Rattle.first_form.specs.Text.{IsLineTrue, lines_of, text_of}
-use Rattle.first_form.specs.declared.form.Form.{Form}
-use Rattle.syntox.specs.Lines.{max_source, refusal_line}
+-- What `analyse` owes for a source without fault: the report of its analysis, or the line that its unfolding has too many cells.
+use Rattle.std.specs.Prelude.{◌≡◌, ℕ, ◌≤◌, Bool, List, length, Option}
+use Rattle.activations.specs.Drawn.{Drawn, IsUnfolding}
+use Rattle.activations.specs.Unfolding.{IsTooMany, unfolding_of}
+use Rattle.alias_class.specs.Classes.{Class}
+use Rattle.alternation.specs.Solved.{IsPlain}
+use Rattle.control_points.specs.declared.flow.Flow.{Flow}
+use Rattle.report.specs.Report.{report_text}
+use Rattle.report.specs.Wording.{fault_line}
+use Rattle.report.specs.declared.fault.SourceFault.TheVariants.{Cells}
+use Rattle.transfer_fwd.specs.Forward.{Table}
+use Rattle.syntox.specs.Files.{HasFlow}
+use Rattle.syntox.specs.Lines.{max_source}
+use Rattle.syntox.specs.Source.{IsFlowOf}
 use Rattle.syntox.specs.declared.due.Stream.{Stream}
 use Rattle.syntox.specs.declared.due.Stream.TheVariants.{Answers, Complaints}
 use Rattle.syntox.specs.declared.status.Status.{Status}
 use Rattle.syntox.specs.declared.status.Status.TheVariants.{Done, Refused}
 
--- a file that is analysed: it is small enough, and a program of the first form
-abbrev pub HasForm : List ℕ → Form → Type 0
-HasForm bytes form = (length bytes ≤ max_source) × IsFormOf bytes form
+-- The text is the report of the file, with or without what is known at each point: that of the flow of its bytes, over the graph that is
+-- the flow's unfolding, by the table of what holds whenever a run stands at a node.
+pub record IsReport (file : List ℕ) (points : Bool) (told : Option (Option (List ℕ))) (text : List ℕ) : Type 0 where
+  pub source : List ℕ
+  pub flow : Flow
+  pub has_flow : HasFlow told source flow
+  pub graph : Drawn
+  pub is_unfolding : IsUnfolding flow graph
+  pub table : Table
+  pub is_plain : IsPlain flow graph table
+  pub is : text ≡ report_text source flow graph table table file points
 
--- What is told of the file is that it has no form.
-abbrev pub HasNoForm : Option (Option (List ℕ)) → Type 0
-HasNoForm told = ForFile told (λ bytes. (form : Form) → ¬ HasForm bytes form)
+-- The line tells that the file's unfolding is too large, and how many cells the first classes have where they pass the limit.
+pub record TellsCells (file : List ℕ) (told : Option (Option (List ℕ))) (line : List ℕ) : Type 0 where
+  pub source : List ℕ
+  pub flow : Flow
+  pub has_flow : HasFlow told source flow
+  pub classes : List Class
+  pub cells : ℕ
+  pub too_many : IsTooMany (unfolding_of flow classes) cells
+  pub is : line ≡ fault_line file source (Cells cells)
 
--- The text is the one of the file's form, and each of its lines is true in every run on every finite input.
-pub record IsReport (file : List ℕ) (told : Option (Option (List ℕ))) (text : List ℕ) : Type 0 where
-  pub bytes : List ℕ
-  pub of_file : ForFile told (λ known. bytes ≡ known)
-  pub form : Form
-  pub has_form : HasForm bytes form
-  pub is : text ≡ text_of file form
-  pub is_true : All (IsLineTrue form) (lines_of form)
+-- a text that is no larger than a source may be and has a flow, whose unfolding isn't too large
+pub record CanBeAnalysed (text : List ℕ) : Type 0 where
+  pub within : length text ≤ max_source
+  pub flow : Flow
+  pub is_flow : IsFlowOf text flow
+  pub few : (classes : List Class) (cells : ℕ) → ¬ IsTooMany (unfolding_of flow classes) cells
 
--- What is due for a file that was read: this text goes to this sink, with this status once it was written.
-pub data IsAnalysed (file : List ℕ) (told : Option (Option (List ℕ))) : Stream → List ℕ → Status → Type 0 where
-  no_form : HasNoForm told → IsAnalysed file told Complaints (refusal_line file) Refused
-  report : {text : List ℕ} → IsReport file told text → IsAnalysed file told Answers text Done
+-- What is due for the analysis of a source without fault: this text goes to this sink, with this status once it was written.
+pub data IsAnalysed (file : List ℕ) (points : Bool) (told : Option (Option (List ℕ))) : Stream → List ℕ → Status → Type 0 where
+  large : {line : List ℕ} → TellsCells file told line → IsAnalysed file points told Complaints line Refused
+  report : {text : List ℕ} → IsReport file points told text → IsAnalysed file points told Answers text Done

@@ -1,10 +1,11 @@
 -- What the program owes for its words, and why.
-use Rattle.std.specs.Prelude.{◌≡◌, ℕ, List, Option, Some, None}
+use Rattle.std.specs.Prelude.{◌≡◌, ℕ, Bool, List, Option, Some, None}
 use Rattle.px_base.specs.Bytes.{AddsPrefix}
 use Rattle.px_base.specs.Faults.{Rose}
 use Rattle.syntox.specs.Analysis.{IsAnalysed}
 use Rattle.syntox.specs.Command.{Asked, analysis_of, run_of, file_of}
-use Rattle.syntox.specs.Lines.{IsUnreadable, usage_line}
+use Rattle.syntox.specs.Files.{IsUnopened}
+use Rattle.syntox.specs.Lines.{usage_line}
 use Rattle.syntox.specs.Running.{Given, IsRunDue}
 use Rattle.syntox.specs.Sinks.{Sinks}
 use Rattle.syntox.specs.declared.due.Stream.{Stream}
@@ -25,24 +26,24 @@ outside files before after input = record { files = files; before = before; afte
 -- What is due for the words: this text goes to this sink, with this status once it was written.
 pub data IsDue (o : Outside) : Option Asked → Stream → List ℕ → Status → Type 0 where
   usage : IsDue o None Complaints usage_line Usage
-  unread : {asks : Asked} {to : Stream} {text : List ℕ} {status : Status} → IsUnreadable (file_of asks) o.before o.after to text status
-      → IsDue o (Some asks) to text status
-  analysed : {file : List ℕ} {to : Stream} {text : List ℕ} {status : Status} → IsAnalysed file (o.files file) to text status
-      → IsDue o (Some (analysis_of file)) to text status
+  unopened : {asks : Asked} {to : Stream} {text : List ℕ} {status : Status}
+      → IsUnopened (file_of asks) (o.files (file_of asks)) o.before o.after to text status → IsDue o (Some asks) to text status
+  analysed : {file : List ℕ} {points : Bool} {to : Stream} {text : List ℕ} {status : Status}
+      → IsAnalysed file points (o.files file) to text status → IsDue o (Some (analysis_of file points)) to text status
   run : {file : List ℕ} {steps : ℕ} {to : Stream} {text : List ℕ} {status : Status}
-      → IsRunDue file (o.files file) o.input steps to text status → IsDue o (Some (run_of file steps)) to text status
+      → IsRunDue (o.files file) o.input steps to text status → IsDue o (Some (run_of file steps)) to text status
 
 -- ---- for each command
 
 -- The words ask for an analysis of which the first holds, or for a run of which the second does.
-abbrev pub ForCommand : Option Asked → (List ℕ → Type 0) → (List ℕ → ℕ → Type 0) → Type 0
+abbrev pub ForCommand : Option Asked → (List ℕ → Bool → Type 0) → (List ℕ → ℕ → Type 0) → Type 0
 ForCommand None P Q = ⊥
-ForCommand (Some (analysis_of file)) P Q = P file
+ForCommand (Some (analysis_of file points)) P Q = P file points
 ForCommand (Some (run_of file steps)) P Q = Q file steps
 
 -- The words ask for a run, and this holds of it.
 abbrev pub ForRun : Option Asked → (List ℕ → ℕ → Type 0) → Type 0
-ForRun asked Q = ForCommand asked (λ file. ⊥) Q
+ForRun asked Q = ForCommand asked (λ file points. ⊥) Q
 
 -- ---- a sink that failed
 

@@ -1,5 +1,5 @@
 -- What the words of the command line ask for. A word is its bytes.
-use Rattle.std.specs.Prelude.{ℕ, ◌+◌, ◌-◌, ◌*◌, nat_le, List, [], ◌∷◌, Bool, true, not, ◌&&◌, ◌==◌, if◌then◌else◌, Option, Some, None, option_map, Vec, String, map, string_bytes, codes}
+use Rattle.std.specs.Prelude.{ℕ, ◌+◌, ◌-◌, ◌*◌, nat_le, List, [], ◌∷◌, Bool, true, false, not, ◌&&◌, ◌==◌, if◌then◌else◌, Option, Some, None, option_map, Vec, String, map, string_bytes, codes}
 use Rattle.std.specs.Char.{is_ascii_digit}
 use Rattle.std.specs.List.{list_all}
 use Rattle.std.specs.Str.{byte, bytes_eq}
@@ -7,9 +7,10 @@ use Rattle.std.specs.declared.alloc.Global.{Global}
 use Rattle.syntox.specs.declared.command.Command.{Command}
 use Rattle.syntox.specs.declared.command.Command.TheVariants as command
 
--- what is asked for: the analysis of a file, or a run of the program in a file, of at most so many steps
+-- what is asked for: the analysis of the program in a file, with or without what is known at each point, or a run of it, of at most so
+-- many steps
 pub data Asked : Type 0 where
-  analysis_of : List ℕ → Asked
+  analysis_of : List ℕ → Bool → Asked
   run_of : List ℕ → ℕ → Asked
 
 -- no option: it doesn't begin with `-`, or is `-` alone
@@ -43,16 +44,26 @@ steps_of digits = if list_all is_ascii_digit digits then within_steps (number_af
 -- `analyse FILE` or `run FILE`
 abbrev pub plain : List ℕ → List ℕ → Option Asked
 plain command file =
-    if bytes_eq command (codes "analyse") then Some (analysis_of file)
+    if bytes_eq command (codes "analyse") then Some (analysis_of file false)
     else (if bytes_eq command (codes "run") then Some (run_of file default_steps) else None)
 
--- these, and `run FILE --steps N`
-abbrev pub asked_of : List (List ℕ) → Option Asked
-asked_of (command ∷ file ∷ []) = if is_operand file then plain command file else None
-asked_of (command ∷ file ∷ option ∷ number ∷ []) =
-    if bytes_eq command (codes "run") && is_operand file && bytes_eq option (codes "--steps")
+-- `analyse FILE --points`
+abbrev pub with_points : List ℕ → List ℕ → List ℕ → Option Asked
+with_points command file option =
+    if bytes_eq command (codes "analyse") && bytes_eq option (codes "--points") then Some (analysis_of file true) else None
+
+-- `run FILE --steps N`
+abbrev pub with_steps : List ℕ → List ℕ → List ℕ → List ℕ → Option Asked
+with_steps command file option number =
+    if bytes_eq command (codes "run") && bytes_eq option (codes "--steps")
     then option_map (λ steps. run_of file steps) (steps_of number)
     else None
+
+-- one of these, of a file that is no option
+abbrev pub asked_of : List (List ℕ) → Option Asked
+asked_of (command ∷ file ∷ []) = if is_operand file then plain command file else None
+asked_of (command ∷ file ∷ option ∷ []) = if is_operand file then with_points command file option else None
+asked_of (command ∷ file ∷ option ∷ number ∷ []) = if is_operand file then with_steps command file option number else None
 asked_of _ = None
 
 -- the same of the words as they are given
@@ -61,10 +72,10 @@ asked words = asked_of (map string_bytes words.items)
 
 -- the file that is asked for
 abbrev pub file_of : Asked → List ℕ
-file_of (analysis_of file) = file
+file_of (analysis_of file points) = file
 file_of (run_of file steps) = file
 
 -- what a command that was read asks for
 abbrev pub told : Command → Asked
-told (command.Analyse file) = analysis_of file.now
+told (command.Analyse file points) = analysis_of file.now points
 told (command.Run file steps) = run_of file.now steps

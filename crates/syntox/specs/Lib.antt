@@ -1,6 +1,7 @@
 pub mod Analysis
 pub mod Answers
 pub mod Command
+pub mod Files
 pub mod Lines
 pub mod Rising
 pub mod Running

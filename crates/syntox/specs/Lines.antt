@@ -21,9 +21,6 @@ usage_line = codes "usage: syntox analyse FILE [--rounds N] [--points] | run FIL
 abbrev pub line : List ℕ → List ℕ → List ℕ
 line who why = who ++ codes ": " ++ why ++ codes "\n"
 
-abbrev pub refusal_line : List ℕ → List ℕ
-refusal_line file = line file (codes "not of the first form")
-
 -- a file, or `input`
 abbrev pub unreadable_line : List ℕ → List ℕ
 unreadable_line who = line who (codes "cannot be read")

@@ -2,7 +2,7 @@
 ghost use Rattle.std.specs.Prelude.{◌≡◌, map, string_bytes, option_map};
 ghost use Rattle.std.specs.Char.{is_ascii_digit};
 ghost use Rattle.std.specs.List.{list_all};
-ghost use Rattle.syntox.specs.Command.{asked_of, is_operand, plain, steps_of, told};
+ghost use Rattle.syntox.specs.Command.{asked_of, is_operand, plain, steps_of, told, with_points, with_steps};
 
 /// The whole usage line.
 pub const USAGE: &str =
@@ -17,8 +17,8 @@ const MAX_STEPS: u32 = 1_000_000_000;
 /// What the words ask for.
 #[derive(Clone, Copy, Debug)]
 pub enum Command<'a> {
-    /// The text of a file of the first form.
-    Analyse { file: &'a str },
+    /// The report of the program in a file, with or without what is known at each point.
+    Analyse { file: &'a str, points: bool },
     /// A run of the program in a file, of at most so many steps.
     Run { file: &'a str, steps: u32 },
 }
@@ -50,12 +50,15 @@ fn steps_of(word: &str) -> Option<u32>
     }
 }
 
-/// The command without options that a word names.
+/// `analyse FILE` or `run FILE`
 fn plain_command<'a>(command: &str, file: &'a str) -> Option<Command<'a>>
     ensures { option_map told result ≡ plain command.now file.now }
 {
     match command {
-        "analyse" => Some(Command::Analyse { file }),
+        "analyse" => Some(Command::Analyse {
+            file,
+            points: false,
+        }),
         "run" => Some(Command::Run {
             file,
             steps: DEFAULT_STEPS,
@@ -64,7 +67,26 @@ fn plain_command<'a>(command: &str, file: &'a str) -> Option<Command<'a>>
     }
 }
 
-/// What the words ask for: `analyse FILE`, `run FILE` or `run FILE --steps N`. Nothing else is served.
+/// `analyse FILE --points`
+fn with_points<'a>(command: &str, file: &'a str, option: &str) -> Option<Command<'a>>
+    ensures { option_map told result ≡ with_points command.now file.now option.now }
+{
+    let points = true;
+    (command == "analyse" && option == "--points").then_some(Command::Analyse { file, points })
+}
+
+/// `run FILE --steps N`
+fn with_steps<'a>(command: &str, file: &'a str, option: &str, number: &str) -> Option<Command<'a>>
+    ensures { option_map told result ≡ with_steps command.now file.now option.now number.now }
+{
+    if command != "run" || option != "--steps" {
+        return None;
+    }
+    let steps = steps_of(number)?;
+    Some(Command::Run { file, steps })
+}
+
+/// What the words ask for: `analyse FILE`, `analyse FILE --points`, `run FILE` or `run FILE --steps N`. Nothing else is served.
 pub fn command_of(words: &[String]) -> Option<Command<'_>>
     ensures { option_map told result ≡ asked_of (map string_bytes words.now) }
 {
@@ -72,14 +94,15 @@ pub fn command_of(words: &[String]) -> Option<Command<'_>>
         [command, file] if is_operand(file.as_str()) => {
             plain_command(command.as_str(), file.as_str())
         }
-        [command, file, option, number]
-            if command.as_str() == "run"
-                && is_operand(file.as_str())
-                && option.as_str() == "--steps" => {
-            let steps = steps_of(number.as_str())?;
-            let file = file.as_str();
-            Some(Command::Run { file, steps })
+        [command, file, option] if is_operand(file.as_str()) => {
+            with_points(command.as_str(), file.as_str(), option.as_str())
         }
+        [command, file, option, number] if is_operand(file.as_str()) => with_steps(
+            command.as_str(),
+            file.as_str(),
+            option.as_str(),
+            number.as_str(),
+        ),
         _ => None,
     }
 }

@@ -7,6 +7,7 @@ mod analyse;
 mod command;
 mod due;
 mod limit;
+mod opening;
 mod run;
 mod source;
 mod status;

@@ -1,18 +1,16 @@
 //! The command `run`.
-ghost use Rattle.std.specs.Prelude.{◌≡◌, ◌≤◌, ◌↔◌, ◌⊎◌, ℕ, List, Some, length, IfOk};
-ghost use Rattle.report.specs.Wording.{CanTell, fault_line};
-ghost use Rattle.syntox.specs.Lines.{IsUnreadable, max_input, max_source};
-ghost use Rattle.syntox.specs.Running.{IsFaultless, IsRun, IsRunDue, input_of, status_of};
-ghost use Rattle.syntox.specs.Source.{IsFlowOf};
+ghost use Rattle.std.specs.Prelude.{◌≡◌, ◌≤◌, ◌↔◌, ◌⊎◌, ℕ, List, Option, Some, length, IfOk};
+ghost use Rattle.syntox.specs.Files.{HasFlow, IsFaultless, IsUnopened};
+ghost use Rattle.syntox.specs.Lines.{max_input, max_source};
+ghost use Rattle.syntox.specs.Running.{IsRun, IsRunDue, input_of, status_of};
 
 use crate::due::{Due, Stream, line, unreadable};
-use crate::limit::{MAX_INPUT, MAX_SOURCE};
-use crate::source::{Refusal, flow_of};
+use crate::limit::MAX_INPUT;
+use crate::opening::{Opening, open_file};
 use crate::status::Status;
 use control_points::Flow;
 use interp::{Ending, items_of, run as run_flow, text as run_text};
-use px_base::{ReadEnd, Shelf, Source, read_all, read_file};
-use report::{SourceFault, fault_text};
+use px_base::{ReadEnd, Shelf, Source, read_all};
 use std::alloc::{AllocError, Global};
 
 /// The status of a run that ended so.
@@ -36,9 +34,9 @@ fn run_on(
 ) -> Result<Due, AllocError>
     requires source { length text.now ≤ max_source }
     requires input { length input.now ≤ max_input }
-    requires flow { IsFlowOf text.now flow.now }
     ensures stream { IfOk result (λ due. due.to ≡ Stream.Answers) }
-    ensures run { IfOk result (λ due. IsRun (Some (Some text.now)) (Some input.now) steps due.status due.text.items) }
+    ensures run { (told : Option (Option (List ℕ))) → HasFlow told text.now flow.now
+        → IfOk result (λ due. IsRun told (Some input.now) steps due.status due.text.items) }
 {
     let items = items_of(alloc, input)?;
     let ended = run_flow(alloc, flow, &items, steps)?;
@@ -56,9 +54,8 @@ fn run_with<D: Source>(
     steps: u32,
     given: &mut D,
 ) -> Result<Due, AllocError>
-    requires source { length text.now ≤ max_source }
-    requires flow { IsFlowOf text.now flow.now }
-    ensures { (file : List ℕ) → IfOk result (λ due. IsRunDue file (Some (Some text.now))
+    requires { length text.now ≤ max_source }
+    ensures { (told : Option (Option (List ℕ))) → HasFlow told text.now flow.now → IfOk result (λ due. IsRunDue told
         (input_of (D.left given.old) (D.faults given.old) (D.faults given.new)) steps due.to due.text.items due.status) }
 {
     match read_all(alloc, given, MAX_INPUT) {
@@ -66,40 +63,6 @@ fn run_with<D: Source>(
         Err(ReadEnd::TooLarge) => line(alloc, "input", "too large", Status::DataTooLarge),
         Err(ReadEnd::Failed) => unreadable(alloc, "input"),
         Err(ReadEnd::Memory(error)) => Err(error),
-    }
-}
-
-/// The line of a source's fault.
-fn refuse(alloc: Global, file: &str, text: &[u8], fault: &SourceFault) -> Result<Due, AllocError>
-    requires small { length text.now ≤ max_source }
-    requires told { CanTell (length text.now) fault.now }
-    ensures stream { IfOk result (λ due. due.to ≡ Stream.Complaints) }
-    ensures text { IfOk result (λ due. due.text.items ≡ fault_line file.now text.now fault.now) }
-    ensures status { IfOk result (λ due. due.status ≡ Status.Refused) }
-{
-    let text = fault_text(alloc, file, text, fault)?;
-    let to = Stream::Complaints;
-    let status = Status::Refused;
-    Ok(Due { to, text, status })
-}
-
-/// What is due for a run of the program in a text.
-fn run_source<D: Source>(
-    alloc: Global,
-    file: &str,
-    text: &[u8],
-    steps: u32,
-    given: &mut D,
-) -> Result<Due, AllocError>
-    requires { length text.now ≤ max_source }
-    ensures due { IfOk result (λ due. IsRunDue file.now (Some (Some text.now))
-        (input_of (D.left given.old) (D.faults given.old) (D.faults given.new)) steps due.to due.text.items due.status) }
-    ensures given { (given.new ≡ given.old) ⊎ IsFaultless (Some (Some text.now)) }
-{
-    match flow_of(alloc, text) {
-        Ok(flow) => run_with(alloc, text, &flow, steps, given),
-        Err(Refusal::Fault(fault)) => refuse(alloc, file, text, &fault),
-        Err(Refusal::Memory(error)) => Err(error),
     }
 }
 
@@ -113,17 +76,15 @@ pub fn run<P: Shelf, D: Source>(
 ) -> Result<Due, AllocError>
     requires { P.may_ask shelf.old file.now }
     ensures due { IfOk result (λ due.
-        IsRunDue file.now (P.file shelf.old file.now) (input_of (D.left given.old) (D.faults given.old) (D.faults given.new)) steps
+        IsRunDue (P.file shelf.old file.now) (input_of (D.left given.old) (D.faults given.old) (D.faults given.new)) steps
         due.to due.text.items due.status
-        ⊎ IsUnreadable file.now (P.faults shelf.old) (P.faults shelf.new) due.to due.text.items due.status) }
+        ⊎ IsUnopened file.now (P.file shelf.old file.now) (P.faults shelf.old) (P.faults shelf.new) due.to due.text.items due.status) }
     ensures names { (n : List ℕ) → P.may_ask shelf.new n ↔ P.may_ask shelf.old n }
     ensures files { (n : List ℕ) → P.file shelf.new n ≡ P.file shelf.old n }
     ensures given { (given.new ≡ given.old) ⊎ IsFaultless (P.file shelf.old file.now) }
 {
-    match read_file(alloc, shelf, file, MAX_SOURCE) {
-        Ok(text) => run_source(alloc, file, &text, steps, given),
-        Err(ReadEnd::TooLarge) => refuse(alloc, file, b"", &SourceFault::TooLarge),
-        Err(ReadEnd::Failed) => unreadable(alloc, file),
-        Err(ReadEnd::Memory(error)) => Err(error),
+    match open_file(alloc, file, shelf)? {
+        Opening::Source { text, flow } => run_with(alloc, &text, &flow, steps, given),
+        Opening::Line(due) => Ok(due),
     }
 }

@@ -19,6 +19,9 @@ use std::test::Fail;
 const USAGE: &str =
     "usage: syntox analyse FILE [--rounds N] [--points] | run FILE [--steps N] | make N\n";
 
+/// A program of 22 bytes that does nothing.
+const EMPTY: &str = "program p; begin end.\n";
+
 /// What a call is made with: the words, the bytes of the input, the numbers of the calls of each object that fail (0 for
 /// none), and how many bytes `out` takes at most, in all and at once.
 #[derive(Clone, Copy)]
@@ -90,12 +93,9 @@ fn answer_to(
 /// Over objects that never fail no fault is answered.
 #[test]
 fn sure_objects(rt: HostRuntime) -> Result<(), Fail> {
-    for (command, text) in [
-        ("analyse", analysis::FIRST),
-        ("run", "program p; begin end.\n"),
-    ] {
+    for command in ["analyse", "run"] {
         let words = words_of(rt.alloc(), &[command, "any.pas"])?;
-        let mut shelf = SureShelf::new(text.as_bytes().to_vec(rt.alloc())?);
+        let mut shelf = SureShelf::new(EMPTY.as_bytes().to_vec(rt.alloc())?);
         let mut given = SureSource::new(Vec::new(rt.alloc()));
         let (mut out, mut err) = (SureSink::new(), SureSink::new());
         let answer = top(

@@ -1,11 +1,11 @@
 //! Sources and inputs at the limits.
-use super::{PLAIN, Setting, answer_to};
+use super::{EMPTY, PLAIN, Setting, answer_to};
 use crate::status::number_of;
 use std::alloc::{AllocError, Global};
 use std::test::Fail;
 
 /// A text with a piece so many times, between a head and an end.
-fn repeated(
+pub fn repeated(
     alloc: Global,
     head: &str,
     piece: &str,
@@ -30,8 +30,8 @@ fn nested(alloc: Global, times: u32) -> Result<String, AllocError> {
 fn limits(rt: HostRuntime) -> Result<(), Fail> {
     let alloc = rt.alloc();
     // With its line feed the program has 22 bytes.
-    let full = repeated(alloc, "program p; begin end.\n", " ", 1_048_554, "")?;
-    let over = repeated(alloc, "program p; begin end.\n", " ", 1_048_555, "")?;
+    let full = repeated(alloc, EMPTY, " ", 1_048_554, "")?;
+    let over = repeated(alloc, EMPTY, " ", 1_048_555, "")?;
     let deep = nested(alloc, 199)?;
     let deeper = nested(alloc, 200)?;
     let files = [

@@ -139,7 +139,7 @@ fn push_name(text: &mut String, first: char, n: u32) -> Result<(), AllocError> {
 }
 
 /// A program of 999 variables and so many procedures, each of which is called once.
-fn wide(alloc: Global, procedures: u32) -> Result<String, AllocError> {
+pub fn wide(alloc: Global, procedures: u32) -> Result<String, AllocError> {
     let mut text = String::from_str(alloc, "program big;\nvar x")?;
     for n in 0..998 {
         text.push_str(", ")?;

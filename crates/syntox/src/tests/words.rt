@@ -1,14 +1,10 @@
 //! The words of the command line.
-use super::{PLAIN, Setting, USAGE, answer_to};
+use super::{EMPTY, PLAIN, Setting, USAGE, answer_to};
 use crate::status::number_of;
 use std::test::Fail;
 
 /// A program that halts after two steps, under names that are words of their own.
-const FILES: [(&str, &str); 3] = [
-    ("p", "program p; begin end.\n"),
-    ("-", "program p; begin end.\n"),
-    ("", "program p; begin end.\n"),
-];
+const FILES: [(&str, &str); 3] = [("p", EMPTY), ("-", EMPTY), ("", EMPTY)];
 
 const HALTED: &str = "-- halted after 2 steps\n";
 
@@ -37,7 +33,7 @@ fn served(rt: HostRuntime) -> Result<(), Fail> {
 
 #[test]
 fn refused(rt: HostRuntime) -> Result<(), Fail> {
-    let cases: [&[&str]; 26] = [
+    let cases: [&[&str]; 31] = [
         &[""],
         &["analyse"],
         &["run"],
@@ -47,8 +43,13 @@ fn refused(rt: HostRuntime) -> Result<(), Fail> {
         &["run", "--"],
         &["Run", "p"],
         &["make", "1"],
-        &["analyse", "p", "--points"],
-        &["analyse", "p", "--rounds", "2"],
+        &["analyse", "--points"],
+        &["analyse", "--points", "p"],
+        &["analyse", "p", "--point"],
+        &["analyse", "p", "--points", "p"],
+        &["analyse", "p", "--points", "--points"],
+        &["analyse", "p", "--rounds", "0"],
+        &["run", "p", "--points"],
         &["analyse", "p", "--steps", "2"],
         &["run", "p", "p"],
         &["run", "p", "--steps"],

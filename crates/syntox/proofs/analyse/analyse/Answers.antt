@@ -1,29 +1,15 @@
-use Rattle.std.proofs.Common.{Err, ap, inl, inr}
-use Rattle.syntox.proofs.Owed.{Analysed, analysed_read, failed, lined, too_large_has_none}
-use Rattle.syntox.specs.Analysis as analysis
-use Rattle.syntox.specs.Lines.{refusal_line, unreadable_line}
-use Rattle.syntox.specs.Lines as lines
-use Rattle.syntox.specs.declared.status.Status.TheVariants.{ReadFault, Refused}
+use Rattle.std.proofs.Common.{subst, sym}
+use Rattle.syntox.proofs.Owed.{owed}
+use Rattle.syntox.specs.Analysis.{IsAnalysed}
+use Rattle.syntox.specs.Files.{HasFlow, IsOpening, IsUnopened}
 use Rattle.syntox.proofs.analyse.analyse.Goals as goal
 
-pub returns-in-Ok-clause-due : goal.returns-in-Ok-clause-due
-returns-in-Ok-clause-due g c =
+pub returns-in-Source-clause-due : goal.returns-in-Source-clause-due
+returns-in-Source-clause-due g c =
     let file = c.args.file.now in
-    analysed_read file c.in-Ok.bytes.items c.deref.result.now (g.P.Shelf.file c.args.shelf.now file) (g.P.Shelf.faults c.args.shelf.now) (g.P.Shelf.faults c.read_file.new.shelf)
-    c.text_of.result c.in-Ok.ensures.bytes c.deref.ensures.value c.text_of.ensures
-
-pub returns-in-Err-TooLarge-clause-due : goal.returns-in-Err-TooLarge-clause-due
-returns-in-Err-TooLarge-clause-due g c =
-    let file = c.args.file.now in
-    lined (Analysed file (g.P.Shelf.file c.args.shelf.now file) (g.P.Shelf.faults c.args.shelf.now) (g.P.Shelf.faults c.read_file.new.shelf))
-    (refusal_line file) Refused c.no_form.result
-    (inl (analysis.no_form (too_large_has_none _ (c.in-Err-TooLarge.ensures.too_large (ap Err c.in-Err-TooLarge.field-0-is)))))
-    c.no_form.ensures.stream c.no_form.ensures.text c.no_form.ensures.status
-
-pub returns-in-Err-Failed-clause-due : goal.returns-in-Err-Failed-clause-due
-returns-in-Err-Failed-clause-due g c =
-    let file = c.args.file.now in
-    lined (Analysed file (g.P.Shelf.file c.args.shelf.now file) (g.P.Shelf.faults c.args.shelf.now) (g.P.Shelf.faults c.read_file.new.shelf))
-    (unreadable_line file) ReadFault c.unreadable.result
-    (inr (lines.unreadable (failed _ _ c.in-Err-Failed.field-0 c.in-Err-Failed.field-0-is c.in-Err-Failed.ensures.cause)))
-    c.unreadable.ensures.stream c.unreadable.ensures.text c.unreadable.ensures.status
+    let told = g.P.Shelf.file c.args.shelf.now file in
+    let before = g.P.Shelf.faults c.args.shelf.now in
+    let after = g.P.Shelf.faults c.open_file.new.shelf in
+    let has = subst (IsOpening file told before after) c.in-Source.is c.in_ok-text.ensures.opening in
+    owed (IsAnalysed file c.args.points told) (IsUnopened file told before after) c.analyse_flow.result
+    (c.analyse_flow.ensures told (subst (λ text. HasFlow told text c.in-Source.flow) (sym c.deref.ensures.value) has))

@@ -1,14 +1,13 @@
 use Rattle.std.proofs.Common.{subst, ◌∙◌}
 use Rattle.control_points.specs.Flows.{chart_of}
 use Rattle.interp.specs.RunText.{IsEnd}
-use Rattle.syntox.proofs.Owed.{source_of}
 use Rattle.syntox.proofs.run.run_on.Goals as goal
 
 pub returns-clause-run : goal.returns-clause-run
-returns-clause-run c = record {
+returns-clause-run c told has = record {
   source = c.args.text.now;
   flow = c.args.flow.now;
-  has_flow = record { source = source_of c.args.text.now c.requires.source; is_flow = c.requires.flow };
+  has_flow = has;
   bytes = c.args.input.now;
   is_input = record { given = (λ known e. cc); within = c.requires.input };
   ended = c.in_ok-ended.ended;

@@ -12,8 +12,8 @@ use Rattle.syntox.proofs.top.due_for.Goals as goal
 
 pub analyse-requires : goal.analyse-requires
 analyse-requires g c =
-    c.requires.may_ask (analysis_of c.in-Some-Analyse.file.now)
-    (asks_for string_bytes c.args.words.now.items c.deref.result.now c.in-Some-Analyse.field-0 (command.Analyse c.in-Some-Analyse.file) c.deref.ensures.value c.in-Some-Analyse.field-0-is c.in-Some-Analyse.ensures)
+    c.requires.may_ask (analysis_of c.in-Some-Analyse.file.now c.in-Some-Analyse.points)
+    (asks_for string_bytes c.args.words.now.items c.deref.result.now c.in-Some-Analyse.field-0 (command.Analyse c.in-Some-Analyse.file c.in-Some-Analyse.points) c.deref.ensures.value c.in-Some-Analyse.field-0-is c.in-Some-Analyse.ensures)
 
 pub run-requires : goal.run-requires
 run-requires g c =
@@ -24,8 +24,8 @@ pub returns-in-Some-Analyse-clause-due : goal.returns-in-Some-Analyse-clause-due
 returns-in-Some-Analyse-clause-due g c =
     analysis_due (outside (g.P.Shelf.file c.args.shelf.now) (g.P.Shelf.faults c.args.shelf.now) (g.P.Shelf.faults c.analyse.new.shelf)
     (input_of (g.D.Source.left c.args.given.now) (g.D.Source.faults c.args.given.now) (g.D.Source.faults c.args.given.now)))
-    (asked c.args.words.now) c.analyse.result c.in-Some-Analyse.file.now
-    (asks_for string_bytes c.args.words.now.items c.deref.result.now c.in-Some-Analyse.field-0 (command.Analyse c.in-Some-Analyse.file) c.deref.ensures.value c.in-Some-Analyse.field-0-is c.in-Some-Analyse.ensures)
+    (asked c.args.words.now) c.analyse.result c.in-Some-Analyse.file.now c.in-Some-Analyse.points
+    (asks_for string_bytes c.args.words.now.items c.deref.result.now c.in-Some-Analyse.field-0 (command.Analyse c.in-Some-Analyse.file c.in-Some-Analyse.points) c.deref.ensures.value c.in-Some-Analyse.field-0-is c.in-Some-Analyse.ensures)
     c.analyse.ensures.due
 
 pub returns-in-Some-Run-clause-due : goal.returns-in-Some-Run-clause-due

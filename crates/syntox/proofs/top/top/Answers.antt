@@ -68,8 +68,12 @@ returns-clause-write_fault g c e =
     c.in_ok-due.ensures.due c.deliver.ensures.delivers is
 
 pub returns-clause-complete : goal.returns-clause-complete
-returns-clause-complete g c file bytes form asks known has calm still =
-    complete.analysed (told g c) (around g c) file bytes known calm still form has
+returns-clause-complete g c file bytes points asks known can calm still =
+    let law = c.a_text_has_one_covering.ensures in
+    let one = c.a_tree_has_one_program.ensures in
+    complete.analysed (told g c) (around g c) file bytes points known calm still
+    (complete.no_line law.tokens law.either c.a_fault_and_a_program_exclude_each_other.ensures file bytes (complete.program_of law.tokens law.either bytes can))
+    (complete.no_cells law.tokens law.either (record { types = one.types; vars = one.vars; routines = one.routines; asserts = one.asserts }) file bytes can)
     (subst (λ a. IsDue (told g c) a c.in_ok-due.due.to c.in_ok-due.due.text.items c.in_ok-due.due.status) asks c.in_ok-due.ensures.due) c.deliver.ensures.delivers
 
 pub returns-clause-complete_run : goal.returns-clause-complete_run
