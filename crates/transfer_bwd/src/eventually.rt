@@ -1,0 +1,102 @@
+//! From where a run comes to meet an assertion, as equations.
+
+ghost use Rattle.std.specs.Prelude.{◌≡◌, map};
+ghost use Rattle.activations.specs.Fitting.{ArcsFit};
+ghost use Rattle.alias_class.specs.Outlines.{outline_of};
+ghost use Rattle.environment.specs.Environments.{env_ops};
+ghost use Rattle.environment.specs.Kept.{room_of};
+ghost use Rattle.fixpoint.specs.System.{IsSystem};
+ghost use Rattle.transfer_fwd.specs.Systems.{FitsGraph, HasRoomFor, environments};
+ghost use Rattle.transfer_bwd.specs.Reads.{AreReads, all_met};
+ghost use Rattle.transfer_bwd.specs.Silent.{AreSilent};
+ghost use Rattle.transfer_bwd.specs.Systems.{eventually_system};
+
+use crate::arcs::BackwardArcs;
+use abstract_expr::refining_leaves_less;
+use activations::Graph;
+use control_points::Flow;
+use environment::Env;
+use fixpoint::Equations;
+use lattice::Steps;
+use std::sync::ledger::Ledger;
+use transfer_fwd::Unfolded;
+
+/// The equations of what comes to meet an assertion over the nodes of an unfolding: from where a run meets it at some time, within a bound.
+#[derive(Drop)]
+pub struct Eventually<'a> {
+    pub(crate) arcs: BackwardArcs<'a>,
+    pub(crate) bound: &'a [Env],
+    pub(crate) scratch: &'a mut Env,
+    pub(crate) reads: &'a [Vec<u32>],
+    pub(crate) assert: u32,
+    pub ghost listed: { AreReads arcs.unfolded.graph.now (all_met arcs.unfolded.flow.now arcs.unfolded.graph.now) (map (λ v. v.items) reads.now) },
+    pub ghost fits: { FitsGraph arcs.unfolded.graph.now (environments bound.now) },
+    pub ghost is_system: { IsSystem env_ops (eventually_system arcs.unfolded.flow.now arcs.unfolded.graph.now (map (λ v. v.items) reads.now) arcs.silent.now assert (environments bound.now)) },
+    pub ghost room: { HasRoomFor arcs.unfolded.graph.now (room_of scratch.now) },
+}
+
+impl<'a> Eventually<'a> {
+    ghost use Rattle.transfer_bwd.specs.Solving.{kept_of_eventually, system_of_eventually};
+
+    /// The system of one assertion within a bound at each node, where these classes are silent for it.
+    pub fn over(
+        flow: &'a Flow,
+        graph: &'a Graph,
+        bound: &'a [Env],
+        scratch: &'a mut Env,
+        reads: &'a [Vec<u32>],
+        silent: &'a [bool],
+        assert: u32,
+    ) -> Eventually<'a>
+        requires outline { graph.now.table.outline ≡ outline_of flow.now }
+        requires fits { ArcsFit flow.now graph.now }
+        requires bound { FitsGraph graph.now (environments bound.now) }
+        requires reads { AreReads graph.now (all_met flow.now graph.now) (map (λ v. v.items) reads.now) }
+        requires room { HasRoomFor graph.now (room_of scratch.old) }
+        requires silent { AreSilent flow.now graph.now silent.now }
+        ensures system { system_of_eventually result ≡ eventually_system flow.now graph.now (map (λ v. v.items) reads.now) silent.now assert (environments bound.now) }
+        ensures scratch { (kept_of_eventually result).scratch ≡ scratch.entry.ghost_name }
+        ensures room { (kept_of_eventually result).room ≡ room_of scratch.old }
+    {
+        refining_leaves_less();
+        Eventually {
+            arcs: BackwardArcs {
+                unfolded: Unfolded { flow, graph },
+                silent,
+            },
+            bound,
+            scratch,
+            reads,
+            assert,
+        }
+    }
+}
+
+impl Equations<Env> for Eventually<'_> {
+    ghost use Rattle.transfer_fwd.specs.Solving.{Kept};
+    ghost use Rattle.transfer_bwd.specs.Solving.{kept_of_eventually, system_of_eventually};
+
+    ghost system = { system_of_eventually };
+
+    ghost Kept = { Kept };
+
+    ghost kept = { kept_of_eventually };
+
+    ghost laws = { λ s. s.is_system };
+
+    fn nodes(&self) -> u32 {
+        self.arcs.unfolded.graph.nodes()
+    }
+
+    fn reads(&self, node: u32) -> &[u32] {
+        &self.reads[node as usize]
+    }
+
+    fn eval<G: Ledger>(&mut self, node: u32, table: &[Env], out: &mut Env, count: &mut Steps<G>) {
+        count.tick();
+        let arcs = self.arcs;
+        let held = &self.bound[node as usize];
+        arcs.gather(node, held, table, self.scratch, out);
+        arcs.join_met(node, self.assert, held, self.scratch, out);
+    }
+}
